@@ -1,0 +1,18 @@
+-- `lengths::has` meets its contract. Assumes nothing.
+use mathlib.Core.Path.{sym}
+use Rattle.lengths.proofs.SetLaws.{has-digit}
+use borrow.Author.Needs.{needs}
+use Rattle.lengths.proofs.has.Statement.{statement}
+use Rattle.lengths.proofs.has.Tie as tie
+
+cast-result : tie.Need-cast-result
+cast-result c = search needs
+
+shr-result : tie.Need-shr-result
+shr-result c = search needs
+
+returns : tie.Need-returns
+returns c = sym (has-digit (c .args .set) (c .args .i))
+
+pub has-spec : {M : Type 1} → statement M
+has-spec = tie.close (tie.spec cast-result shr-result returns)

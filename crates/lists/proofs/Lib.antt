@@ -1,0 +1,3 @@
+pub mod TestLaws
+pub mod MemberLaws
+pub mod Pigeonhole

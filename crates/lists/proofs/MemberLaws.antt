@@ -1,0 +1,79 @@
+-- Laws on the entries of lists. Assumes nothing.
+use Prim.Native.Nat.{ℕ}
+use mathlib.Core.Path.{_≡_, refl, sym, ap, _∙_}
+use mathlib.Core.Logic.{_⊎_, inl, inr}
+use mathlib.Core.Bool.{Bool, true, false, _||_, false≢true}
+use mathlib.Core.List.{List, [], _∷_}
+use lib.Dec.{eqb}
+use borrow.Author.Tests.{eqb-true, eq-eqb}
+use Rattle.lists.proofs.TestLaws.{and-true, true-and, true-or}
+use Rattle.lists.specs.Lists.{member, every, keep, add}
+
+pub member-head : (x : ℕ) (xs : List ℕ) → member x (x ∷ xs) ≡ true
+unfolding member
+member-head x xs = rw (eq-eqb x x refl)
+
+pub member-tail : (x y : ℕ) (xs : List ℕ) → member x xs ≡ true → member x (y ∷ xs) ≡ true
+unfolding member
+member-tail x y xs e = true-or (eqb x y) (member x xs) e
+
+pub member-cases : (x y : ℕ) (ys : List ℕ) → member x (y ∷ ys) ≡ true → (x ≡ y) ⊎ (member x ys ≡ true)
+unfolding member
+member-cases x y ys e = go (eqb x y) refl e
+  where
+    go : (t : Bool) → eqb x y ≡ t → (t || member x ys) ≡ true → (x ≡ y) ⊎ (member x ys ≡ true)
+    go true q e′ = inl (eqb-true x y q)
+    go false q e′ = inr e′
+
+pub member-none : (x : ℕ) → member x [] ≡ true → ⊥
+unfolding member
+member-none x e = false≢true e
+
+-- an entry that passes the test is kept
+pub member-keep : (f : ℕ → Bool) (x : ℕ) (xs : List ℕ) → member x xs ≡ true → f x ≡ true → member x (keep f xs) ≡ true
+unfolding keep add
+member-keep f x [] m e = absurd (member-none x m)
+member-keep f x (y ∷ ys) m e = go (member-cases x y ys m) (λ q. member-keep f x ys q e)
+  where
+    later : (t : Bool) → member x (keep f ys) ≡ true → member x (add t y (keep f ys)) ≡ true
+    later true q = member-tail x y (keep f ys) q
+    later false q = q
+
+    go : (x ≡ y) ⊎ (member x ys ≡ true) → (member x ys ≡ true → member x (keep f ys) ≡ true) → member x (add (f y) y (keep f ys)) ≡ true
+    go (inl q) ih = let p : f y ≡ true = ap f (sym q) ∙ e in rw (p, q) (member-head y (keep f ys))
+    go (inr q) ih = later (f y) (ih q)
+
+-- what is kept is an entry and passes the test
+pub keep-member : (f : ℕ → Bool) (x : ℕ) (xs : List ℕ) → member x (keep f xs) ≡ true → (member x xs ≡ true) × (f x ≡ true)
+unfolding keep add
+keep-member f x [] m = absurd (member-none x m)
+keep-member f x (y ∷ ys) m = go (f y) refl m (keep-member f x ys)
+  where
+    Kept : Type 0
+    Kept = (member x (y ∷ ys) ≡ true) × (f x ≡ true)
+
+    later : (member x ys ≡ true) × (f x ≡ true) → Kept
+    later p = (member-tail x y ys (p .0), p .1)
+
+    go₁ : f y ≡ true → (x ≡ y) ⊎ (member x (keep f ys) ≡ true) → (member x (keep f ys) ≡ true → (member x ys ≡ true) × (f x ≡ true)) → Kept
+    go₁ q (inl e) ih = (rw e (member-head y ys), ap f e ∙ q)
+    go₁ q (inr e) ih = later (ih e)
+
+    go : (t : Bool) → f y ≡ t → member x (add t y (keep f ys)) ≡ true
+        → (member x (keep f ys) ≡ true → (member x ys ≡ true) × (f x ≡ true)) → Kept
+    go true q e ih = go₁ q (member-cases x y (keep f ys) e) ih
+    go false q e ih = later (ih e)
+
+pub every-at : (f : ℕ → Bool) (xs : List ℕ) (x : ℕ) → every f xs ≡ true → member x xs ≡ true → f x ≡ true
+unfolding every
+every-at f [] x e m = absurd (member-none x m)
+every-at f (y ∷ ys) x e m = go (member-cases x y ys m) (every-at f ys x (and-true (f y) (every f ys) e .1))
+  where
+    go : (x ≡ y) ⊎ (member x ys ≡ true) → (member x ys ≡ true → f x ≡ true) → f x ≡ true
+    go (inl q) ih = ap f q ∙ and-true (f y) (every f ys) e .0
+    go (inr q) ih = ih q
+
+pub every-all : (f : ℕ → Bool) (xs : List ℕ) → ((x : ℕ) → member x xs ≡ true → f x ≡ true) → every f xs ≡ true
+unfolding every
+every-all f [] h = refl
+every-all f (y ∷ ys) h = true-and (h y (member-head y ys)) (every-all f ys (λ x q. h x (member-tail x y ys q)))

@@ -1,0 +1,39 @@
+-- Laws on tests. Assumes nothing.
+use mathlib.Core.Path.{_≡_, refl, sym, _∙_}
+use mathlib.Core.Logic.{_⊎_, inl, inr}
+use mathlib.Core.Bool.{Bool, true, false, not, _&&_, _||_, false≢true, true≢false}
+
+pub and-true : (a b : Bool) → (a && b) ≡ true → (a ≡ true) × (b ≡ true)
+and-true true b e = (refl, e)
+and-true false b e = absurd (false≢true e)
+
+pub true-and : {a b : Bool} → a ≡ true → b ≡ true → (a && b) ≡ true
+true-and p q = rw (p, q)
+
+pub or-false : (a b : Bool) → (a || b) ≡ false → (a ≡ false) × (b ≡ false)
+or-false true b e = absurd (true≢false e)
+or-false false b e = (refl, e)
+
+pub not-true : (a : Bool) → not a ≡ true → a ≡ false
+not-true true e = sym e
+not-true false e = refl
+
+pub true-or-false : (b : Bool) → (b ≡ true) ⊎ (b ≡ false)
+true-or-false true = inl refl
+true-or-false false = inr refl
+
+pub true-or : (a b : Bool) → b ≡ true → (a || b) ≡ true
+true-or true b e = refl
+true-or false b e = e
+
+pub or-true : (a b : Bool) → (a || b) ≡ true → (a ≡ true) ⊎ (b ≡ true)
+or-true true b e = inl refl
+or-true false b e = inr e
+
+pub false-of : (t : Bool) → (t ≡ true → ⊥) → t ≡ false
+false-of true h = absurd (h refl)
+false-of false h = refl
+
+-- contraposition
+pub false-back : (a b : Bool) → (a ≡ true → b ≡ true) → b ≡ false → a ≡ false
+false-back a b h e = false-of a (λ q. true≢false (sym (h q) ∙ e))

@@ -1,0 +1,54 @@
+-- Choices, and tests over lists of numbers.
+use Prim.Native.Nat.{ℕ, zero, suc}
+use mathlib.Core.Path.{_≡_}
+use mathlib.Core.Bool.{Bool, true, false, not, _&&_, _||_}
+use mathlib.Core.List.{List, [], _∷_, _++_}
+use lib.ListN.{length, drop}
+use lib.Dec.{eqb, ltb}
+
+abbrev pub pick : {A : Type 0} → Bool → A → A → A
+pick true a b = a
+pick false a b = b
+
+-- x is an entry of the list
+unfoldable pub member : ℕ → List ℕ → Bool
+member x [] = false
+member x (y ∷ ys) = eqb x y || member x ys
+
+-- each entry passes the test
+unfoldable pub every : (ℕ → Bool) → List ℕ → Bool
+every f [] = true
+every f (x ∷ xs) = f x && every f xs
+
+-- the entries that pass the test
+unfoldable pub add : Bool → ℕ → List ℕ → List ℕ
+add true x xs = x ∷ xs
+add false x xs = xs
+
+unfoldable pub keep : (ℕ → Bool) → List ℕ → List ℕ
+keep f [] = []
+keep f (x ∷ xs) = add (f x) x (keep f xs)
+
+-- the entries other than x
+unfoldable pub without : ℕ → List ℕ → List ℕ
+without x xs = keep (λ g. not (eqb g x)) xs
+
+-- a, a + 1, .. : k numbers
+unfoldable pub span : ℕ → ℕ → List ℕ
+span zero a = []
+span (suc k) a = a ∷ span k (suc a)
+
+-- each entry is greater than the one before it
+unfoldable pub ascends : List ℕ → Bool
+ascends [] = true
+ascends (x ∷ []) = true
+ascends (x ∷ y ∷ ys) = ltb x y && ascends (y ∷ ys)
+
+-- no entry stands twice
+abbrev pub Distinct : List ℕ → Type 0
+Distinct [] = Unit {0}
+Distinct (x ∷ xs) = (member x xs ≡ false) × Distinct xs
+
+-- the list d with xs over its front
+abbrev pub front : List ℕ → List ℕ → List ℕ
+front xs d = xs ++ drop (length xs) d

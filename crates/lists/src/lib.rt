@@ -1,0 +1,1 @@
+// The definitions and laws on lists that every crate shares: this crate has no code of its own.

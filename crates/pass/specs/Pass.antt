@@ -1,0 +1,43 @@
+-- The operation pass: its answer on every input, and what it leaves (document 01, 'The operations and what they refuse').
+use Prim.Native.Nat.{ℕ}
+use mathlib.Core.List.{List}
+use lib.ListN.{length}
+use lib.Dec.{ltb}
+use Rattle.lists.specs.Lists.{pick, front}
+use Rattle.varint.specs.Varint.{Read, got, refuse, after}
+use Rattle.sheet.specs.Lent.{workNumbers, zeroed, workAfter}
+use Rattle.pass.specs.Accepted.{accepted}
+use Rattle.pass.specs.Verdict.{verdict, passSlip}
+
+-- pass and reason finish with the bytes of a slip, or refuse with a number
+pub data Answer : Type 0 where
+  finished : List ℕ → Answer
+  refused : ℕ → Answer
+
+unfoldable pub answerOf : Read (List ℕ) → Answer
+answerOf (got slip rest) = finished slip
+answerOf (refuse e) = refused e
+
+-- What a call gives and leaves: the refusal number, 0 where it finished, the slip's length, and what work and slip hold.
+pub record Outcome : Type 0 where
+  pub number : ℕ
+  pub length : ℕ
+  pub work : List ℕ
+  pub slip : List ℕ
+
+-- a finished call leaves the slip in front and the first 16,384 work numbers zero; a refused one gives length 0 and leaves the slip as found
+unfoldable pub outcome : Answer → List ℕ → List ℕ → Outcome
+outcome (finished bytes) work slip = record { number = 0; length = length bytes; work = zeroed work; slip = front bytes slip }
+outcome (refused e) work slip = record { number = e; length = 0; work = workAfter e work; slip = slip }
+
+-- 1: work under 16,384 numbers; 2: slip under 1,200 bytes; then what the sheet draws
+unfoldable pub lentEnough : List ℕ → List ℕ → Answer → Answer
+lentEnough work slip a = pick (ltb (length work) workNumbers) (refused 1) (pick (ltb (length slip) 1200) (refused 2) a)
+
+-- what pass answers to a sheet, given work and slip of the lengths it asks for
+unfoldable pub passOn : List ℕ → Answer
+passOn sheet = answerOf (after (accepted sheet) (λ S rest. got (passSlip S (verdict S)) rest))
+
+-- pass, for every sheet, work and slip
+unfoldable pub passed : List ℕ → List ℕ → List ℕ → Outcome
+passed sheet work slip = outcome (lentEnough work slip (passOn sheet)) work slip

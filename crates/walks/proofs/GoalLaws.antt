@@ -1,0 +1,468 @@
+-- The goals matter as a set; and the least length by the goal whose first meeting is the last along the walk.
+use Prim.Native.Nat.{ℕ, _+_, _-_, _<_}
+use mathlib.Core.Path.{_≡_, refl, sym, ap, _∙_, subst}
+use mathlib.Core.Logic.{_⊎_, inl, inr}
+use mathlib.Core.Bool.{Bool, true, false, not}
+use mathlib.Core.List.{List, [], _∷_, _++_}
+use native.Mathlib.Omega.{arith}
+use lib.ListN.{length}
+use lib.Dec.{eqb, leb}
+use borrow.Author.Tests.{leb-true, leb-false, eqb-true, eqb-false, lt-ltb, le-ltb}
+use Rattle.lists.proofs.MemberLaws.{member-head, member-tail, member-cases, member-none, member-keep, keep-member}
+use Rattle.lists.proofs.TestLaws.{not-true, true-or-false}
+use Rattle.lists.specs.Lists.{member, keep, without, pick}
+use Rattle.walks.proofs.FewArcs.{cross, rest}
+use Rattle.walks.proofs.Join.{meets-none, meets-all, meets-at, len-append, first-item, first-arc, walk-append, items-left, items-right, walk-first, walk-last}
+use Rattle.walks.proofs.LeastLaw.{left, rest-left, meets-rest, fit-walk, walk-fit, Upto, upto-le, Attained, is-least, least-unique}
+use Rattle.walks.specs.Goals.{entryOf, exitOf, over, ownOf, lastly, anyLast}
+use Rattle.walks.specs.Graph.{Graph, tailOf, headOf, weightOf, arcItem, items, len, meets, fit, least}
+use Rattle.walks.specs.Lengths.{Least, none, some, lesser, plus}
+use Rattle.walks.specs.Walk.{Step, Walk}
+
+-- each goal of hs is one of gs
+abbrev pub Includes : List ℕ → List ℕ → Type 0
+Includes gs hs = (x : ℕ) → member x hs ≡ true → member x gs ≡ true
+
+-- order and repeats of goals do not matter
+pub least-members : (G : Graph) (closed : ℕ → Bool) (gs hs : List ℕ) (a b : ℕ) → Includes gs hs → Includes hs gs
+    → least G closed gs a b ≡ least G closed hs a b
+least-members G closed gs hs a b i j =
+    least-unique G closed hs a b (least G closed gs a b) (least G closed hs a b)
+    (record {
+      attained = attained (least G closed gs a b) (is-least G closed gs a b .attained);
+      lower = λ w e. is-least G closed gs a b .lower w (other hs gs j w e);
+    })
+    (is-least G closed hs a b)
+  where
+    other : (gs hs : List ℕ) → Includes gs hs → (w : List ℕ) → fit G closed gs a b w ≡ true → fit G closed hs a b w ≡ true
+    other gs hs i w e =
+        let f = fit-walk G closed gs b a w e in
+        walk-fit G closed hs b a w (f .0) (meets-all G hs a w (λ x m. meets-at G gs a w x (f .1) (i x m)))
+
+    attained : (r : Least) → Attained G (fit G closed gs a b) r → Attained G (fit G closed hs a b) r
+    attained none t = tt
+    attained (some k) t = (t .0, other gs hs i (t .0) (t .1), t .2)
+
+-- where a goal is entered and left, by the kind of goal
+pub entry-node : (G : Graph) (g : ℕ) → g < G .nodes → entryOf G g ≡ g
+unfolding entryOf
+entry-node G g h = rw (lt-ltb g (G .nodes) h)
+
+pub exit-node : (G : Graph) (g : ℕ) → g < G .nodes → exitOf G g ≡ g
+unfolding exitOf
+exit-node G g h = rw (lt-ltb g (G .nodes) h)
+
+pub own-node : (G : Graph) (closed : ℕ → Bool) (g : ℕ) → g < G .nodes → ownOf G closed g ≡ some 0
+unfolding ownOf over
+own-node G closed g h = rw (lt-ltb g (G .nodes) h)
+
+pub entry-arc : (G : Graph) (l : ℕ) → entryOf G (arcItem G l) ≡ tailOf G l
+unfolding entryOf arcItem
+entry-arc G l =
+    let e : G .nodes + l - G .nodes ≡ l = omega arith in
+    rw (le-ltb (G .nodes + l) (G .nodes) (omega arith), e)
+
+pub exit-arc : (G : Graph) (l : ℕ) → exitOf G (arcItem G l) ≡ headOf G l
+unfolding exitOf arcItem
+exit-arc G l =
+    let e : G .nodes + l - G .nodes ≡ l = omega arith in
+    rw (le-ltb (G .nodes + l) (G .nodes) (omega arith), e)
+
+pub own-arc : (G : Graph) (closed : ℕ → Bool) (l : ℕ) → closed (arcItem G l) ≡ false → ownOf G closed (arcItem G l) ≡ some (weightOf G l)
+unfolding ownOf over arcItem
+own-arc G closed l o =
+    let e : G .nodes + l - G .nodes ≡ l = omega arith in
+    rw (le-ltb (G .nodes + l) (G .nodes) (omega arith), e, o)
+
+pub own-shut : (G : Graph) (closed : ℕ → Bool) (l : ℕ) → closed (arcItem G l) ≡ true → ownOf G closed (arcItem G l) ≡ none
+unfolding ownOf over arcItem
+own-shut G closed l o = rw (le-ltb (G .nodes + l) (G .nodes) (omega arith), o)
+
+-- a goal is a node or an arc
+pub data Item (G : Graph) : ℕ → Type 0 where
+  node : {g : ℕ} → g < G .nodes → Item G g
+  arc : (l : ℕ) → l < length (G .arcs) → Item G (arcItem G l)
+
+-- hs are the goals of gs other than g
+pub record Others (gs : List ℕ) (g : ℕ) (hs : List ℕ) : Type 0 where
+  pub fewer : (x : ℕ) → member x hs ≡ true → (member x gs ≡ true) × (x ≡ g → ⊥)
+  pub more : (x : ℕ) → member x gs ≡ true → (x ≡ g) ⊎ (member x hs ≡ true)
+
+pub others-without : (gs : List ℕ) (g : ℕ) → Others gs g (without g gs)
+unfolding without
+others-without gs g = record {
+  fewer = λ x m. let k = keep-member (λ x. not (eqb x g)) x gs m in (k .0, λ q. eqb-false x g (not-true (eqb x g) (k .1)) q);
+  more = λ x m. go x m (true-or-false (eqb x g));
+}
+  where
+    go : (x : ℕ) → member x gs ≡ true → (eqb x g ≡ true) ⊎ (eqb x g ≡ false) → (x ≡ g) ⊎ (member x (without g gs) ≡ true)
+    go x m (inl q) = inl (eqb-true x g q)
+    go x m (inr q) = inr (member-keep (λ x. not (eqb x g)) x gs m (rw q))
+
+empty : (xs : List ℕ) → (xs ≡ []) ⊎ (xs ≡ [] → ⊥)
+empty [] = inl refl
+empty (x ∷ xs) = inr (λ e. let z : _≡_ {A = ℕ} 0 1 = cc in omega arith)
+
+some-member : (xs : List ℕ) → (xs ≡ [] → ⊥) → (x : ℕ) × (member x xs ≡ true)
+some-member [] n = absurd (n refl)
+some-member (x ∷ xs) n = (x, member-head x xs)
+
+-- where only x goes out and nothing is left, x was there
+only : (x : ℕ) (xs : List ℕ) → without x xs ≡ [] → (xs ≡ [] → ⊥) → member x xs ≡ true
+only x xs e n =
+    let y = some-member xs n in go (y .0) (y .1) (others-without xs x .more (y .0) (y .1))
+  where
+    go : (y : ℕ) → member y xs ≡ true → (y ≡ x) ⊎ (member y (without x xs) ≡ true) → member x xs ≡ true
+    go y m (inl q) = subst (λ (z : ℕ). member z xs ≡ true) q m
+    go y m (inr q) = absurd (member-none y (subst (λ (zs : List ℕ). member y zs ≡ true) e q))
+
+module _ (G : Graph) (closed : ℕ → Bool) (b : ℕ) where
+  -- A walk of length k from a, with the goals rs left there, split at the goal that is met last.
+  record Last (a : ℕ) (rs : List ℕ) (k : ℕ) : Type 0 where
+    goal : ℕ
+    among : member goal rs ≡ true
+    to : List ℕ
+    from : List ℕ
+    walk-to : Walk G closed a (entryOf G goal) to
+    walk-from : Walk G closed (exitOf G goal) b from
+    own : ℕ
+    own-is : ownOf G closed goal ≡ some own
+    total : len G to + own + len G from ≡ k
+    met : without goal (rest G rs to) ≡ []
+
+  -- the goal is the node p, which the walk `to` reaches
+  last-node : (a p k : ℕ) (rs to from : List ℕ) → member p rs ≡ true → Walk G closed a p to → Walk G closed p b from
+      → len G to + len G from ≡ k → without p (rest G rs to) ≡ [] → Last a rs k
+  last-node a p k rs to from m P Q t e =
+      let h = walk-last G closed a p to P .0 in
+      record {
+        goal = p;
+        among = m;
+        to = to;
+        from = from;
+        walk-to = rw (entry-node G p h) P;
+        walk-from = rw (exit-node G p h) Q;
+        own = 0;
+        own-is = own-node G closed p h;
+        total = omega (arith, t);
+        met = e;
+      }
+
+  last-arc : (a l k : ℕ) (rs from : List ℕ) → member (arcItem G l) rs ≡ true → Step G closed a l → Walk G closed (headOf G l) b from
+      → weightOf G l + len G from ≡ k → without (arcItem G l) rs ≡ [] → Last a rs k
+  unfolding len
+  last-arc a l k rs from m S Q t e =
+      record {
+        goal = arcItem G l;
+        among = m;
+        to = [];
+        from = from;
+        walk-to = rw (entry-arc G l) (record { node = S .node; open-node = S .open-node; there = sym (S .leaves) });
+        walk-from = rw (exit-arc G l) Q;
+        own = weightOf G l;
+        own-is = own-arc G closed l (S .open-arc);
+        total = omega (arith, t);
+        met = e;
+      }
+
+  without-less : (x y : ℕ) (xs : List ℕ) → member y (without x xs) ≡ true → member y xs ≡ true
+  without-less x y xs m = others-without xs x .fewer y m .0
+
+  cross-less : (l y : ℕ) (xs : List ℕ) → member y (cross G l xs) ≡ true → member y xs ≡ true
+  unfolding cross
+  cross-less l y xs m = without-less (arcItem G l) y xs (without-less (headOf G l) y (without (arcItem G l) xs) m)
+
+  last-later : (a l : ℕ) (rs w : List ℕ) → Step G closed a l → Last (headOf G l) (cross G l rs) (len G w) → Last a rs (len G (l ∷ w))
+  unfolding len
+  last-later a l rs w S L =
+      record {
+        goal = L .goal;
+        among = cross-less l (L .goal) rs (L .among);
+        to = l ∷ L .to;
+        from = L .from;
+        walk-to = (S, L .walk-to);
+        walk-from = L .walk-from;
+        own = L .own;
+        own-is = L .own-is;
+        total = omega (arith, L .total);
+        met = L .met;
+      }
+
+  last : (w : List ℕ) (a : ℕ) (rs : List ℕ) → Walk G closed a b w → rest G rs w ≡ [] → (rs ≡ [] → ⊥) → Last a rs (len G w)
+  unfolding len cross without keep
+  last [] a rs W e n = absurd (n e)
+  last (l ∷ w) a rs W e n = go (empty (without (arcItem G l) rs)) (last w (headOf G l) (cross G l rs) (W .1) e)
+    where
+      stay : Walk G closed (headOf G l) (headOf G l) []
+      stay = let h = walk-first G closed (headOf G l) b w (W .1) in record { node = h .0; open-node = h .1; there = refl }
+
+      go₁ : (without (arcItem G l) rs ≡ [] → ⊥) → (cross G l rs ≡ []) ⊎ (cross G l rs ≡ [] → ⊥) → ((cross G l rs ≡ [] → ⊥) → Last (headOf G l) (cross G l rs) (len G w))
+          → Last a rs (len G (l ∷ w))
+      go₁ n₁ (inl q) ih =
+          last-node a (headOf G l) (len G (l ∷ w)) rs (l ∷ []) w
+          (without-less (arcItem G l) (headOf G l) rs (only (headOf G l) (without (arcItem G l) rs) q n₁)) (W .0, stay) (W .1) (omega arith)
+          (ap (without (headOf G l)) q)
+      go₁ n₁ (inr q) ih = last-later a l rs w (W .0) (ih q)
+
+      go : (without (arcItem G l) rs ≡ []) ⊎ (without (arcItem G l) rs ≡ [] → ⊥)
+          → ((cross G l rs ≡ [] → ⊥) → Last (headOf G l) (cross G l rs) (len G w)) → Last a rs (len G (l ∷ w))
+      go (inl q) ih = last-arc a l (len G (l ∷ w)) rs w (only (arcItem G l) rs q n) (W .0) (W .1) refl q
+      go (inr q) ih = go₁ q (empty (cross G l rs)) ih
+
+  -- A walk of length k from a that meets the goals gs, split at the goal that is met last.
+  record Parted (a : ℕ) (gs : List ℕ) (k : ℕ) : Type 0 where
+    goal : ℕ
+    among : member goal gs ≡ true
+    to : List ℕ
+    from : List ℕ
+    walk-to : Walk G closed a (entryOf G goal) to
+    walk-from : Walk G closed (exitOf G goal) b from
+    own : ℕ
+    own-is : ownOf G closed goal ≡ some own
+    total : len G to + own + len G from ≡ k
+    met : (x : ℕ) → member x gs ≡ true → (x ≡ goal → ⊥) → member x (items G a to) ≡ true
+
+  met-before : (a g : ℕ) (gs to : List ℕ) → without g (rest G (without a gs) to) ≡ [] → (x : ℕ) → member x gs ≡ true → (x ≡ g → ⊥)
+      → member x (items G a to) ≡ true
+  unfolding left
+  met-before a g gs to e x m n = go (true-or-false (member x (items G a to)))
+    where
+      here : (x ≡ g) ⊎ (member x (without g (rest G (without a gs) to)) ≡ true) → ⊥
+      here (inl q) = n q
+      here (inr q) = member-none x (subst (λ (zs : List ℕ). member x zs ≡ true) e q)
+
+      go : (member x (items G a to) ≡ true) ⊎ (member x (items G a to) ≡ false) → member x (items G a to) ≡ true
+      go (inl q) = q
+      go (inr q) =
+          let i : member x (left (items G a to) gs) ≡ true = member-keep (λ y. not (member y (items G a to))) x gs m (rw q) in
+          let j : member x (rest G (without a gs) to) ≡ true = rw (rest-left G a gs to) i in
+          absurd (here (others-without (rest G (without a gs) to) g .more x j))
+
+  -- a split of what is left after the first node is one of the whole
+  part-of : (a k : ℕ) (gs : List ℕ) → Last a (without a gs) k → Parted a gs k
+  part-of a k gs L =
+      record {
+        goal = L .goal;
+        among = without-less a (L .goal) gs (L .among);
+        to = L .to;
+        from = L .from;
+        walk-to = L .walk-to;
+        walk-from = L .walk-from;
+        own = L .own;
+        own-is = L .own-is;
+        total = L .total;
+        met = met-before a (L .goal) gs (L .to) (L .met);
+      }
+
+  -- all goals are the first node
+  part-here : (a : ℕ) (gs w : List ℕ) → Walk G closed a b w → member a gs ≡ true → without a gs ≡ [] → Parted a gs (len G w)
+  unfolding len without keep
+  part-here a gs w W m e =
+      let h = walk-first G closed a b w W in
+      record {
+        goal = a;
+        among = m;
+        to = [];
+        from = w;
+        walk-to = rw (entry-node G a (h .0)) (record { node = h .0; open-node = h .1; there = refl });
+        walk-from = rw (exit-node G a (h .0)) W;
+        own = 0;
+        own-is = own-node G closed a (h .0);
+        total = omega arith;
+        met = met-before a a gs [] (ap (without a) e);
+      }
+
+  part : (w : List ℕ) (a : ℕ) (gs : List ℕ) → Walk G closed a b w → meets G gs a w ≡ true → (gs ≡ [] → ⊥) → Parted a gs (len G w)
+  part w a gs W e n = go (empty (without a gs))
+    where
+      go : (without a gs ≡ []) ⊎ (without a gs ≡ [] → ⊥) → Parted a gs (len G w)
+      go (inl q) = part-here a gs w W (only a gs q n) q
+      go (inr q) = part-of a (len G w) gs (last w a (without a gs) W (meets-rest G gs a w e) q)
+
+plus-upto : (x y : Least) (j k : ℕ) → Upto x j → Upto y k → Upto (plus x y) (j + k)
+unfolding plus
+plus-upto none y j k h g = absurd h
+plus-upto (some a) none j k h g = absurd g
+plus-upto (some a) (some b) j k h g = omega arith
+
+-- r is at most x
+abbrev pub Under : Least → Least → Type 0
+Under r none = Unit {0}
+Under r (some k) = Upto r k
+
+under-upto : (r x : Least) (k : ℕ) → Under r x → Upto x k → Upto r k
+under-upto r none k u h = absurd h
+under-upto r (some j) k u h = upto-le r j k u h
+
+-- r is the least of `lastly` over the goals gs: it is one of these, and at most each
+pub record Lasts (G : Graph) (closed : ℕ → Bool) (gs : List ℕ) (a b : ℕ) (r : Least) : Type 0 where
+  pub one : (k : ℕ) → r ≡ some k → (g : ℕ) × (hs : List ℕ) × (member g gs ≡ true) × Others gs g hs × (lastly G closed a b hs g ≡ some k)
+  pub all : (g : ℕ) → member g gs ≡ true → (hs : List ℕ) × Others gs g hs × Under r (lastly G closed a b hs g)
+
+-- the way over a goal
+record Over (G : Graph) (closed : ℕ → Bool) (g k : ℕ) : Type 0 where
+  way : List ℕ
+  walk : Walk G closed (entryOf G g) (exitOf G g) way
+  long : len G way ≡ k
+  met : member g (items G (entryOf G g) way) ≡ true
+
+over-goal : (G : Graph) (closed : ℕ → Bool) (g k : ℕ) → Item G g → ownOf G closed g ≡ some k → (entryOf G g < G .nodes) × (closed (entryOf G g) ≡ false)
+    → (exitOf G g < G .nodes) × (closed (exitOf G g) ≡ false) → Over G closed g k
+unfolding len
+over-goal G closed g k (node h) e s t =
+    let q : some 0 ≡ some k = sym (own-node G closed g h) ∙ e in
+    record {
+      way = [];
+      walk = record { node = s .0; open-node = s .1; there = entry-node G g h ∙ sym (exit-node G g h) };
+      long = cc;
+      met = rw (entry-node G g h) (first-item G g []);
+    }
+over-goal G closed _ k (arc l h) e s t = go (true-or-false (closed (arcItem G l)))
+  where
+    go : (closed (arcItem G l) ≡ true) ⊎ (closed (arcItem G l) ≡ false) → Over G closed (arcItem G l) k
+    go (inl o) = let q : none ≡ some k = sym (own-shut G closed l o) ∙ e in let z : _≡_ {A = ℕ} 0 1 = cc in absurd (omega arith)
+    go (inr o) =
+        let q : some (weightOf G l) ≡ some k = sym (own-arc G closed l o) ∙ e in
+        let q′ : weightOf G l ≡ k = cc in
+        let s′ = rw (entry-arc G l) at s in
+        let t′ = rw (exit-arc G l) at t in
+        record {
+          way = l ∷ [];
+          walk = rw (entry-arc G l, exit-arc G l) (
+            record { node = s′ .0; open-node = s′ .1; arc = h; open-arc = o; leaves = refl },
+            record { node = t′ .0; open-node = t′ .1; there = refl },
+          );
+          long = omega (arith, q′);
+          met = first-arc G l (entryOf G (arcItem G l)) [];
+        }
+
+pub impossible : {A : Type 0} {k : ℕ} → none ≡ some k → A
+impossible {k = k} e = let z : _≡_ {A = ℕ} 0 1 = cc in absurd (omega arith)
+
+pub some-inj : {j k : ℕ} → some j ≡ some k → j ≡ k
+some-inj e = cc
+
+module _ (G : Graph) (closed : ℕ → Bool) (gs : List ℕ) (a b : ℕ) where
+  -- a walk that meets the other goals, then the way over g, then a walk to b
+  joined : (g j m n : ℕ) (hs : List ℕ) → Item G g → Others gs g hs → ownOf G closed g ≡ some m → Attained G (fit G closed hs a (entryOf G g)) (some j)
+      → Attained G (fit G closed [] (exitOf G g) b) (some n) → Attained G (fit G closed gs a b) (some (j + m + n))
+  joined g j m n hs i o e P Q =
+      let f = fit-walk G closed hs (entryOf G g) a (P .0) (P .1) in
+      let F = fit-walk G closed [] b (exitOf G g) (Q .0) (Q .1) .0 in
+      let X = over-goal G closed g m i e (walk-last G closed a (entryOf G g) (P .0) (f .0)) (walk-first G closed (exitOf G g) b (Q .0) F) in
+      let R = walk-append G closed (entryOf G g) (exitOf G g) b (X .way) (Q .0) (X .walk) F in
+      let met : (x : ℕ) → member x gs ≡ true → member x (items G a (P .0 ++ (X .way ++ Q .0))) ≡ true = λ x h. go (X .way) (X .walk) (X .met) (f .0) (f .1) x (o .more x h) in (
+        P .0 ++ (X .way ++ Q .0),
+        walk-fit G closed gs b a (P .0 ++ (X .way ++ Q .0)) (walk-append G closed a (entryOf G g) b (P .0) (X .way ++ Q .0) (f .0) R)
+            (meets-all G gs a (P .0 ++ (X .way ++ Q .0)) met),
+        len-append G (P .0) (X .way ++ Q .0) ∙ omega (arith, len-append G (X .way) (Q .0), P .2, X .long, Q .2),
+      )
+    where
+      go : (way : List ℕ) → Walk G closed (entryOf G g) (exitOf G g) way → member g (items G (entryOf G g) way) ≡ true
+          → Walk G closed a (entryOf G g) (P .0) → meets G hs a (P .0) ≡ true → (x : ℕ) → (x ≡ g) ⊎ (member x hs ≡ true)
+          → member x (items G a (P .0 ++ (way ++ Q .0))) ≡ true
+      go way X m U h x (inl q) =
+          rw q (items-right G closed g a (entryOf G g) (P .0) (way ++ Q .0) U (items-left G closed g (entryOf G g) (exitOf G g) way (Q .0) X m))
+      go way X m U h x (inr q) = items-left G closed x a (entryOf G g) (P .0) (way ++ Q .0) U (meets-at G hs a (P .0) x h q)
+
+  -- `lastly` is the length of a walk that meets the goals
+  lastly-attained : (g k : ℕ) (hs : List ℕ) → Item G g → Others gs g hs → lastly G closed a b hs g ≡ some k → Attained G (fit G closed gs a b) (some k)
+  unfolding lastly plus
+  lastly-attained g k hs i o e =
+      go (least G closed hs a (entryOf G g)) (ownOf G closed g) (least G closed [] (exitOf G g) b) refl
+      (is-least G closed hs a (entryOf G g) .attained) (is-least G closed [] (exitOf G g) b .attained) e
+    where
+      go : (x y z : Least) → ownOf G closed g ≡ y → Attained G (fit G closed hs a (entryOf G g)) x → Attained G (fit G closed [] (exitOf G g) b) z
+          → plus (plus x y) z ≡ some k → Attained G (fit G closed gs a b) (some k)
+      go none y z q P Q e = impossible e
+      go (some j) none z q P Q e = impossible e
+      go (some j) (some m) none q P Q e = impossible e
+      go (some j) (some m) (some n) q P Q e =
+          subst (λ (x : ℕ). Attained G (fit G closed gs a b) (some x)) (some-inj e) (joined g j m n hs i o q P Q)
+
+  -- no walk that meets the goals is shorter than `lastly` of the goal that it meets last
+  lastly-lower : (w : List ℕ) → (gs ≡ [] → ⊥) → fit G closed gs a b w ≡ true
+      → (g : ℕ) × (member g gs ≡ true) × ((hs : List ℕ) → Others gs g hs → Upto (lastly G closed a b hs g) (len G w))
+  unfolding lastly
+  lastly-lower w n e =
+      let f = fit-walk G closed gs b a w e in
+      let L = part G closed b w a gs (f .0) (f .1) n in
+      (L .goal, L .among, λ hs o. at L hs o)
+    where
+      at : (L : Parted G closed b a gs (len G w)) (hs : List ℕ) → Others gs (L .goal) hs → Upto (lastly G closed a b hs (L .goal)) (len G w)
+      at L hs o =
+          let m = meets-all G hs a (L .to) (λ x q. L .met x (o .fewer x q .0) (o .fewer x q .1)) in
+          let u = is-least G closed hs a (entryOf G (L .goal)) .lower (L .to) (walk-fit G closed hs (entryOf G (L .goal)) a (L .to) (L .walk-to) m) in
+          let v = is-least G closed [] (exitOf G (L .goal)) b .lower (L .from) (walk-fit G closed [] b (exitOf G (L .goal)) (L .from) (L .walk-from) (meets-none G (exitOf G (L .goal)) (L .from))) in
+          let y : Upto (ownOf G closed (L .goal)) (L .own) = rw (L .own-is) (omega arith) in
+          subst (λ (k : ℕ). Upto (lastly G closed a b hs (L .goal)) k) (L .total)
+          (plus-upto (plus (least G closed hs a (entryOf G (L .goal))) (ownOf G closed (L .goal))) (least G closed [] (exitOf G (L .goal)) b)
+          (len G (L .to) + L .own) (len G (L .from))
+          (plus-upto (least G closed hs a (entryOf G (L .goal))) (ownOf G closed (L .goal)) (len G (L .to)) (L .own) u y) v)
+
+  pub last-goal-of : (r : Least) → ((g : ℕ) → member g gs ≡ true → Item G g) → (gs ≡ [] → ⊥) → Lasts G closed gs a b r → least G closed gs a b ≡ r
+  last-goal-of r i n L =
+      least-unique G closed gs a b (least G closed gs a b) r (is-least G closed gs a b) (record { attained = hit r refl; lower = low })
+    where
+      hit : (s : Least) → r ≡ s → Attained G (fit G closed gs a b) s
+      hit none q = tt
+      hit (some k) q = let o = L .one k q in lastly-attained (o .0) k (o .1) (i (o .0) (o .2)) (o .3) (o .4)
+
+      low : (w : List ℕ) → fit G closed gs a b w ≡ true → Upto r (len G w)
+      low w e =
+          let z = lastly-lower w n e in
+          let h = L .all (z .0) (z .1) in
+          under-upto r (lastly G closed a b (h .0) (z .0)) (len G w) (h .2) (z .2 (h .0) (h .1))
+
+pub under-lesser : (x y z : Least) → (Under x z) ⊎ (Under y z) → Under (lesser x y) z
+unfolding lesser
+under-lesser x y none h = tt
+under-lesser none y (some k) (inl h) = absurd h
+under-lesser none y (some k) (inr h) = h
+under-lesser (some i) none (some k) (inl h) = h
+under-lesser (some i) none (some k) (inr h) = absurd h
+under-lesser (some i) (some j) (some k) (inl h) = omega arith
+under-lesser (some i) (some j) (some k) (inr h) = omega arith
+
+pub under-self : (x : Least) → Under x x
+under-self none = tt
+under-self (some k) = omega arith
+
+pub lesser-one : (x y : Least) (k : ℕ) → lesser x y ≡ some k → (x ≡ some k) ⊎ (y ≡ some k)
+unfolding lesser
+lesser-one none y k e = inr e
+lesser-one (some i) none k e = inl e
+lesser-one (some i) (some j) k e = go (leb i j) refl
+  where
+    go : (t : Bool) → leb i j ≡ t → (some i ≡ some k) ⊎ (some j ≡ some k)
+    go true q = inl (ap some (omega (arith, leb-true i j q, some-inj e)))
+    go false q = inr (ap some (omega (arith, leb-false i j q, some-inj e)))
+
+-- The last goal: the least length is the least, over the goals, of a walk that meets the others, comes to the goal, and goes on to the end.
+pub last-goal : (G : Graph) (closed : ℕ → Bool) (gs : List ℕ) (a b : ℕ) → ((g : ℕ) → member g gs ≡ true → Item G g) → (gs ≡ [] → ⊥)
+    → least G closed gs a b ≡ anyLast G closed a b gs gs
+unfolding anyLast
+last-goal G closed gs a b i n =
+    last-goal-of G closed gs a b (anyLast G closed a b gs gs) i n (record { one = one gs (λ g h. h); all = λ g h. (without g gs, others-without gs g, all gs g h) })
+  where
+    one : (fs : List ℕ) → ((g : ℕ) → member g fs ≡ true → member g gs ≡ true) → (k : ℕ) → anyLast G closed a b gs fs ≡ some k
+        → (g : ℕ) × (hs : List ℕ) × (member g gs ≡ true) × Others gs g hs × (lastly G closed a b hs g ≡ some k)
+    one [] s k e = impossible e
+    one (f ∷ fs) s k e = go (lesser-one (lastly G closed a b (without f gs) f) (anyLast G closed a b gs fs) k e) (one fs (λ g h. s g (member-tail g f fs h)) k)
+      where
+        go : (lastly G closed a b (without f gs) f ≡ some k) ⊎ (anyLast G closed a b gs fs ≡ some k)
+            → (anyLast G closed a b gs fs ≡ some k → (g : ℕ) × (hs : List ℕ) × (member g gs ≡ true) × Others gs g hs × (lastly G closed a b hs g ≡ some k))
+            → (g : ℕ) × (hs : List ℕ) × (member g gs ≡ true) × Others gs g hs × (lastly G closed a b hs g ≡ some k)
+        go (inl q) ih = (f, without f gs, s f (member-head f fs), others-without gs f, q)
+        go (inr q) ih = ih q
+
+    all : (fs : List ℕ) (g : ℕ) → member g fs ≡ true → Under (anyLast G closed a b gs fs) (lastly G closed a b (without g gs) g)
+    all [] g h = absurd (member-none g h)
+    all (f ∷ fs) g h = go (member-cases g f fs h) (all fs g)
+      where
+        go : (g ≡ f) ⊎ (member g fs ≡ true) → (member g fs ≡ true → Under (anyLast G closed a b gs fs) (lastly G closed a b (without g gs) g))
+            → Under (anyLast G closed a b gs (f ∷ fs)) (lastly G closed a b (without g gs) g)
+        go (inl q) ih =
+            rw q (under-lesser (lastly G closed a b (without f gs) f) (anyLast G closed a b gs fs) (lastly G closed a b (without f gs) f)
+            (inl (under-self (lastly G closed a b (without f gs) f))))
+        go (inr q) ih = under-lesser (lastly G closed a b (without f gs) f) (anyLast G closed a b gs fs) (lastly G closed a b (without g gs) g) (inr (ih q))

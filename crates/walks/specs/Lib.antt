@@ -1,0 +1,4 @@
+pub mod Lengths
+pub mod Graph
+pub mod Walk
+pub mod Goals

@@ -1,0 +1,1 @@
+// Graphs, walks and least lengths: definitions and laws. The routines are in the crate `lengths`.
