@@ -7,12 +7,11 @@ use lib.ListN.{length, getD}
 use lib.Dec.{ltb}
 use mathlib.Core.Bool.{Bool, true, false}
 use borrow.Author.Tests.{le-ltb, ltb-true, ltb-false}
-use Rattle.lists.specs.Lists.{pick}
 use Rattle.walks.proofs.GoalLaws.{Item, node, arc}
+use Rattle.walks.specs.Flat.{arcsOf}
 use Rattle.walks.specs.Goals.{entryOf, exitOf, over, ownOf}
 use Rattle.walks.specs.Graph.{Arc, noArc, tailOf, headOf, weightOf, arcItem}
 use Rattle.walks.specs.Lengths.{none, some}
-use Rattle.lengths.specs.Held.{arcsOf}
 use Rattle.lengths.specs.Table.{Net, graph, closed, count, tailAt, headAt, weightAt}
 
 pub arcs-count : (xs : List ℕ) → length (arcsOf xs) ≡ length xs / 3

@@ -7,8 +7,9 @@ use lib.ListN.{length, getD, set, take, length-set}
 use lib.Seq.{getD-set-same, getD-set-other, getD-take, length-take-le}
 use borrow.Author.Count.{below-more}
 use Rattle.walks.proofs.BackLaws.{Turned, least-back}
+use Rattle.walks.specs.Flat.{arcsOf}
 use Rattle.lengths.proofs.ArcLaws.{arcs-count, tail-at, head-at, weight-at}
-use Rattle.lengths.specs.Held.{held, arcsOf}
+use Rattle.lengths.specs.Held.{held}
 use Rattle.lengths.specs.Table.{Net, netOf, closed, count, tailAt, headAt, weightAt, Proper, RowIs, RowTo, TurnedTo}
 
 -- arc i is written

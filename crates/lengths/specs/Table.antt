@@ -6,10 +6,11 @@ use mathlib.Core.Bool.{Bool, true, false}
 use Prim.Native.Nat.{ℕ, _+_, _*_, _/_, _^_, _≤_, _<_}
 use lib.ListN.{length, getD, set}
 use Rattle.lists.specs.Lists.{Distinct}
+use Rattle.walks.specs.Flat.{graphOf}
 use Rattle.walks.specs.Goals.{exitOf}
 use Rattle.walks.specs.Graph.{Graph, closedIn, len, least}
 use Rattle.walks.specs.Walk.{Walk}
-use Rattle.lengths.specs.Held.{missing, held, graphOf}
+use Rattle.lengths.specs.Held.{missing, held}
 use Rattle.lengths.specs.Sets.{has, past}
 
 -- A graph and its marks as the code has them: tail, head and weight of each arc in one list, and a mark for each item.

@@ -6,7 +6,8 @@ ghost use lib.ListN.{length, getD, replicate, drop};
 ghost use Rattle.walks.specs.Lengths.{Least, plus, lesser as lesserOf};
 ghost use Rattle.walks.specs.Graph.{least as leastOf, closedIn};
 ghost use Rattle.walks.specs.Goals.{entryOf, exitOf, ownOf};
-ghost use Rattle.lengths.specs.Held.{graphOf, missing, code, atMost, held};
+ghost use Rattle.walks.specs.Flat.{graphOf};
+ghost use Rattle.lengths.specs.Held.{missing, code, atMost, held};
 ghost use Rattle.lengths.specs.Sets.{has as hasOf, chosen, given, past as pastOf};
 ghost use Rattle.lengths.specs.Table.{Proper, netOf, graph, closed, count, Net, RowIs, RowTo, TurnedTo, GoalsFit, Filled, FilledTo, Asked, Relaxed, ArcTried, Settled, Swept, Sound, Keeps};
 

@@ -6,3 +6,4 @@ pub mod BackLaws
 pub mod Through
 pub mod FitsLaws
 pub mod Bound
+pub mod FlatLaws

@@ -3,9 +3,9 @@ use native.Mathlib.Omega.{arith}
 use denote.Ref.{now}
 use borrow.Author.Tests.{eq-eqb, ne-eqb}
 use Rattle.walks.proofs.GoalLaws.{own-node}
+use Rattle.walks.specs.Flat.{graphOf}
 use Rattle.lengths.proofs.ArcLaws.{own-at, own-shut-at}
 use Rattle.lengths.proofs.HeldLaws.{low, high, is-held, above-none}
-use Rattle.lengths.specs.Held.{graphOf}
 use Rattle.lengths.specs.Table.{netOf, closed}
 use borrow.Author.Needs.{needs}
 use Rattle.lengths.proofs.own.Statement.{statement}
