@@ -2,12 +2,13 @@
 use Prim.Native.Nat.{ℕ, zero, suc, _+_, _*_, _≤_, _<_}
 use mathlib.Core.Path.{_≡_, refl, sym, ap, _∙_, subst}
 use mathlib.Core.Bool.{Bool, true, false, not}
-use mathlib.Core.List.{List, [], _∷_}
+use mathlib.Core.List.{List, [], _∷_, _++_}
 use native.Mathlib.Omega.{arith}
 use native.Mathlib.Nat.{mul-le-mul-left, lt-of-not-le}
 use lib.ListN.{length}
 use lib.Dec.{eqb}
 use borrow.Author.Tests.{eqb-true, eqb-false, ne-eqb}
+use Rattle.lists.proofs.MemberLaws.{member-head, member-tail}
 use Rattle.lists.proofs.TestLaws.{or-false}
 use Rattle.lists.specs.Lists.{member, keep, add, without, Distinct}
 
@@ -108,3 +109,16 @@ pair-eq n a k a′ k′ h h′ e =
     let q : k ≡ k′ = omega (arith, pair-le n a k a′ k′ h h′ e, pair-le n a′ k′ a k h′ h (sym e)) in
     let z : n * k ≡ n * k′ = ap (n *_) q in
     (omega arith, q)
+
+pub below-append : (n : ℕ) (xs ys : List ℕ) → Below n xs → Below n ys → Below n (xs ++ ys)
+below-append n [] ys b c = c
+below-append n (x ∷ xs) ys b c = (b .0, below-append n xs ys (b .1) c)
+
+pub below-le : (n m : ℕ) (xs : List ℕ) → n ≤ m → Below n xs → Below m xs
+below-le n m [] h b = tt
+below-le n m (x ∷ xs) h b = (omega (arith, b .0), below-le n m xs h (b .1))
+
+-- entry by entry
+pub below-all : (n : ℕ) (xs : List ℕ) → ((x : ℕ) → member x xs ≡ true → x < n) → Below n xs
+below-all n [] h = tt
+below-all n (x ∷ xs) h = (h x (member-head x xs), below-all n xs (λ y m. h y (member-tail y x xs m)))

@@ -5,10 +5,11 @@ use mathlib.Core.Logic.{_⊎_, inl, inr}
 use mathlib.Core.Bool.{Bool, true, false, not, _&&_, _||_, false≢true}
 use mathlib.Core.List.{List, [], _∷_, _++_, map}
 use native.Mathlib.Omega.{arith}
-use native.Mathlib.Nat.{mul-le-mul-left, add-zero, zero-add}
+use native.Mathlib.Nat.{mul-le-mul-left}
 use lib.ListN.{length}
 use lib.Dec.{eqb, leb, ltb}
 use borrow.Author.Tests.{eqb-true, eq-eqb, ltb-true, lt-ltb, leb-true, leb-false}
+use Rattle.lists.proofs.AscendLaws.{member-span}
 use Rattle.lists.proofs.Pigeonhole.{keep-shrunk}
 use Rattle.lists.proofs.TestLaws.{and-true, true-and, not-true}
 use Rattle.lists.specs.Lists.{member, every, keep, add, span, without}
@@ -160,26 +161,13 @@ in-onward G p f l w (k ∷ ls) m e i = go (eqb l k) refl m (λ m′. in-onward G
         (subst (λ (x : ℕ). In (l ∷ w) (map (λ w. x ∷ w) (f x))) k≡ (in-map l w (f l) i)))
     go false q m′ ih = in-right (l ∷ w) (begin (eqb (tailOf G k) p) k f) (onward G p f ls) (ih m′)
 
-pub member-span : (k a i : ℕ) → i < k → member (a + i) (span k a) ≡ true
-unfolding member span
-member-span zero a i h = absurd (omega arith)
-member-span (suc k) a zero h = rw (eq-eqb (a + 0) a (add-zero a))
-member-span (suc k) a (suc i) h =
-    let e : suc a + i ≡ a + suc i = omega arith in
-    let ih : member (a + suc i) (span k (suc a)) ≡ true = rw (← e) (member-span k (suc a) i (omega arith)) in
-    go (eqb (a + suc i) a) ih
-  where
-    go : (t : Bool) → member (a + suc i) (span k (suc a)) ≡ true → (t || member (a + suc i) (span k (suc a))) ≡ true
-    go true q = refl
-    go false q = q
-
 chains-all : (G : Graph) (closed : ℕ → Bool) (b k a : ℕ) (w : List ℕ) → Walk G closed a b w → length w < k → In w (chains G k a)
 unfolding chains
 chains-all G closed b zero a w W h = absurd (omega arith)
 chains-all G closed b (suc k) a [] W h = inl refl
 chains-all G closed b (suc k) a (l ∷ w) W h =
     inr (in-onward G a (λ l. chains G k (headOf G l)) l w (span (length (G .arcs)) 0)
-    (rw (← (zero-add l)) (member-span (length (G .arcs)) 0 l (W .0 .arc))) (W .0 .leaves)
+    (member-span (length (G .arcs)) 0 l (omega arith) (omega (arith, W .0 .arc))) (W .0 .leaves)
     (chains-all G closed b k (headOf G l) w (W .1) (omega arith)))
 
 -- r is at most k

@@ -1,0 +1,86 @@
+-- Ascending lists: entries kept from a span ascend, and what ascends has no repeats. Assumes nothing.
+use Prim.Native.Nat.{ℕ, zero, suc, _+_, _≤_, _<_}
+use mathlib.Core.Path.{_≡_, refl}
+use mathlib.Core.Logic.{_⊎_, inl, inr}
+use mathlib.Core.Bool.{Bool, true, false}
+use mathlib.Core.List.{List, [], _∷_}
+use native.Mathlib.Omega.{arith}
+use lib.Dec.{ltb}
+use borrow.Author.Tests.{ltb-true, ltb-false, lt-ltb}
+use Rattle.lists.proofs.MemberLaws.{member-cases, member-none, member-head, member-tail}
+use Rattle.lists.proofs.TestLaws.{and-true, true-and, false-of}
+use Rattle.lists.specs.Lists.{member, add, keep, span, ascends, Distinct}
+
+-- the entries ascend, from a on
+abbrev pub Rising : ℕ → List ℕ → Type 0
+Rising a [] = Unit {0}
+Rising a (x ∷ xs) = (a ≤ x) × Rising (suc x) xs
+
+pub rising-from : (a b : ℕ) (xs : List ℕ) → a ≤ b → Rising b xs → Rising a xs
+rising-from a b [] h r = tt
+rising-from a b (x ∷ xs) h r = (omega (arith, r .0), r .1)
+
+pub rising-ascends : (a : ℕ) (xs : List ℕ) → Rising a xs → ascends xs ≡ true
+unfolding ascends
+rising-ascends a [] r = refl
+rising-ascends a (x ∷ []) r = refl
+rising-ascends a (x ∷ y ∷ ys) r = true-and (lt-ltb x y (omega (arith, r .1 .0))) (rising-ascends (suc x) (y ∷ ys) (r .1))
+
+pub ascends-rising : (xs : List ℕ) → ascends xs ≡ true → Rising 0 xs
+unfolding ascends
+ascends-rising [] e = tt
+ascends-rising (x ∷ []) e = (omega arith, tt)
+ascends-rising (x ∷ y ∷ ys) e =
+    let s = and-true (ltb x y) (ascends (y ∷ ys)) e in
+    let r = ascends-rising (y ∷ ys) (s .1) in
+    (omega arith, (omega (arith, ltb-true x y (s .0)), r .1))
+
+rising-member : (a : ℕ) (xs : List ℕ) → Rising a xs → (x : ℕ) → member x xs ≡ true → a ≤ x
+rising-member a [] r x m = absurd (member-none x m)
+rising-member a (y ∷ ys) r x m = go (member-cases x y ys m) (rising-member (suc y) ys (r .1) x)
+  where
+    go : (x ≡ y) ⊎ (member x ys ≡ true) → (member x ys ≡ true → suc y ≤ x) → a ≤ x
+    go (inl q) ih = omega (arith, r .0)
+    go (inr q) ih = omega (arith, r .0, ih q)
+
+pub rising-distinct : (a : ℕ) (xs : List ℕ) → Rising a xs → Distinct xs
+rising-distinct a [] r = tt
+rising-distinct a (x ∷ xs) r =
+    (false-of (member x xs) (λ m. absurd (omega (arith, rising-member (suc x) xs (r .1) x m))), rising-distinct (suc x) xs (r .1))
+
+-- what ascends has no repeats
+pub ascends-distinct : (xs : List ℕ) → ascends xs ≡ true → Distinct xs
+ascends-distinct xs e = rising-distinct 0 xs (ascends-rising xs e)
+
+add-rising : (t : Bool) (a : ℕ) (xs : List ℕ) → Rising (suc a) xs → Rising a (add t a xs)
+unfolding add
+add-rising true a xs r = (omega arith, r)
+add-rising false a xs r = rising-from a (suc a) xs (omega arith) r
+
+pub keep-rising : (f : ℕ → Bool) (k a : ℕ) → Rising a (keep f (span k a))
+unfolding keep span
+keep-rising f zero a = tt
+keep-rising f (suc k) a = add-rising (f a) a (keep f (span k (suc a))) (keep-rising f k (suc a))
+
+-- entries kept from a span ascend
+pub keep-ascends : (f : ℕ → Bool) (k a : ℕ) → ascends (keep f (span k a)) ≡ true
+keep-ascends f k a = rising-ascends a (keep f (span k a)) (keep-rising f k a)
+
+-- the entries of a span
+pub span-member : (k a x : ℕ) → member x (span k a) ≡ true → (a ≤ x) × (x < a + k)
+unfolding span
+span-member zero a x e = absurd (member-none x e)
+span-member (suc k) a x e = go (member-cases x a (span k (suc a)) e) (span-member k (suc a) x)
+  where
+    go : (x ≡ a) ⊎ (member x (span k (suc a)) ≡ true) → (member x (span k (suc a)) ≡ true → (suc a ≤ x) × (x < suc a + k)) → (a ≤ x) × (x < a + suc k)
+    go (inl p) ih = (omega arith, omega arith)
+    go (inr m) ih = let i = ih m in (omega (arith, i .0), omega (arith, i .1))
+
+pub member-span : (k a x : ℕ) → a ≤ x → x < a + k → member x (span k a) ≡ true
+unfolding span
+member-span zero a x h g = absurd (omega arith)
+member-span (suc k) a x h g = go (ltb a x) refl (member-span k (suc a) x)
+  where
+    go : (t : Bool) → ltb a x ≡ t → (suc a ≤ x → x < suc a + k → member x (span k (suc a)) ≡ true) → member x (a ∷ span k (suc a)) ≡ true
+    go true q ih = member-tail x a (span k (suc a)) (ih (omega (arith, ltb-true a x q)) (omega arith))
+    go false q ih = let z : x ≡ a = omega (arith, ltb-false a x q) in rw z (member-head a (span k (suc a)))

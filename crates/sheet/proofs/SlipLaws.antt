@@ -1,0 +1,69 @@
+-- A slip written reads back as its numbers, and is short. Assumes nothing.
+use Prim.Native.Nat.{ℕ, _+_, _≤_, _<_}
+use mathlib.Core.Path.{_≡_, sym, ap, _∙_}
+use mathlib.Core.Bool.{_&&_}
+use mathlib.Core.List.{List, [], _∷_, _++_, append-nil, append-assoc}
+use native.Mathlib.Omega.{arith}
+use lib.ListN.{length, length-append}
+use lib.Dec.{leb}
+use borrow.Author.Tests.{le-leb}
+use Rattle.lists.proofs.Pigeonhole.{Below, below-append, below-le}
+use Rattle.lists.proofs.TestLaws.{true-and}
+use Rattle.varint.proofs.VarintLaws.{number-back, numbers-back, numbers-size, numbers-append, got-number}
+use Rattle.varint.specs.Varint.{got, after, readNumber, number, writeNumber, writeNumbers}
+use Rattle.sheet.specs.Slip.{Slip, slipNumbers, slipBytes, marksBytes, readList, slipEnd, slipReasons, slipGoals, as17, readSlip}
+
+-- a slip as pass and reason write it: at most eight goals and 576 reasons
+pub record Small (s : Slip) : Type 0 where
+  pub low : 1 ≤ s .first
+  pub high : s .first ≤ 4
+  pub few : length (s .goals) ≤ 8
+  pub goals : Below 16384 (s .goals)
+  pub many : length (s .reasons) ≤ 576
+  pub reasons : Below 16384 (s .reasons)
+
+numbers-below : (s : Slip) → Small s → Below 16384 (slipNumbers s)
+unfolding slipNumbers
+numbers-below s b = (
+  omega (arith, b .high),
+  (
+    omega (arith, b .few),
+    below-append 16384 (s .goals) (length (s .reasons) ∷ s .reasons) (b .goals) (omega (arith, b .many), b .reasons),
+  ),
+)
+
+-- the slip of a refused round or a pruned item has at most 1,200 bytes, each a byte
+pub slip-size : (s : Slip) → Small s → (length (slipBytes s) ≤ 1200) × Below 256 (slipBytes s)
+unfolding slipBytes slipNumbers
+slip-size s b =
+    let n = numbers-size (slipNumbers s) (numbers-below s b) in
+    (omega (arith, n .0, length-append (s .goals) (length (s .reasons) ∷ s .reasons), b .few, b .many), n .1)
+
+-- and so has the slip of verdict 0
+pub marks-size : (ms : List ℕ) → length ms ≤ 576 → Below 3 ms → (length (marksBytes ms) ≤ 1200) × Below 256 (marksBytes ms)
+unfolding marksBytes
+marks-size ms h b =
+    let n = numbers-size (0 ∷ ms) (omega arith, below-le 3 16384 ms (omega arith) b) in
+    (omega (arith, n .0), n .1)
+
+-- a count and as many numbers read back
+list-back : (xs t : List ℕ) → length xs < 268435456 → Below 268435456 xs → readList (writeNumbers (length xs ∷ xs) ++ t) ≡ got xs t
+unfolding readList writeNumbers after
+list-back xs t h b = rw (append-assoc, number-back (length xs) (writeNumbers xs ++ t) h) (numbers-back xs t b)
+
+-- a slip written reads back as its numbers
+pub slip-back : (s : Slip) → Small s → readSlip (slipBytes s) ≡ got s []
+unfolding readSlip slipBytes slipNumbers as17 slipGoals slipReasons slipEnd after
+slip-back s b =
+    let g : Below 268435456 (s .goals) = below-le 16384 268435456 (s .goals) (omega arith) (b .goals) in
+    let r : Below 268435456 (s .reasons) = below-le 16384 268435456 (s .reasons) (omega arith) (b .reasons) in
+    let tail : List ℕ = writeNumbers (length (s .reasons) ∷ s .reasons) in
+    let e : slipBytes s ≡ writeNumber (s .first) ++ (writeNumbers (length (s .goals) ∷ s .goals) ++ tail) =
+    unfold slipBytes slipNumbers writeNumbers in ap (λ (bs : List ℕ). writeNumber (s .first) ++ bs) (numbers-append (length (s .goals) ∷ s .goals) (length (s .reasons) ∷ s .reasons)) in
+    let first : number 17 (λ x. leb 1 x && leb x 4) (slipBytes s) ≡ got (s .first) (writeNumbers (length (s .goals) ∷ s .goals) ++ tail) =
+    got-number 17 (λ x. leb 1 x && leb x 4) (slipBytes s) (s .first) (writeNumbers (length (s .goals) ∷ s .goals) ++ tail)
+    (ap readNumber e ∙ number-back (s .first) (writeNumbers (length (s .goals) ∷ s .goals) ++ tail) (omega (arith, b .high)))
+    (true-and (le-leb 1 (s .first) (b .low)) (le-leb (s .first) 4 (b .high))) in
+    let end : readList tail ≡ got (s .reasons) [] =
+    ap readList (sym (append-nil tail)) ∙ list-back (s .reasons) [] (omega (arith, b .many)) r in
+    rw (first, list-back (s .goals) tail (omega (arith, b .few)) g, end)
