@@ -1,8 +1,9 @@
 -- The list of reasons (document 01, 'Reasons').
 use Prim.Native.Nat.{ℕ, zero, suc}
-use mathlib.Core.Bool.{true, false}
+use mathlib.Core.Bool.{Bool, true, false, not, _&&_}
 use mathlib.Core.List.{List, [], _∷_}
 use lib.ListN.{set}
+use lib.Dec.{eqb}
 use Rattle.walks.specs.Graph.{Graph, itemCount, closedIn, fits}
 
 -- The reasons among the c items from i on. Where i is closed it is opened, with those opened earlier also open and later ones still closed. If no
@@ -21,3 +22,7 @@ greedy G s t k goals (suc c) i marks =
 -- the reason for the goals and the limit k that is handed out, from source s to target t
 unfoldable pub reasons : Graph → ℕ → ℕ → ℕ → List ℕ → List ℕ → List ℕ
 reasons G s t k goals marks = greedy G s t k goals (itemCount G) 0 marks
+
+-- what c closes, except r
+unfoldable pub but : (ℕ → Bool) → ℕ → ℕ → Bool
+but c r j = c j && not (eqb j r)
