@@ -1,3 +1,4 @@
 pub mod TestLaws
 pub mod MemberLaws
 pub mod Pigeonhole
+pub mod FrontLaws
