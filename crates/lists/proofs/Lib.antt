@@ -2,3 +2,4 @@ pub mod TestLaws
 pub mod MemberLaws
 pub mod Pigeonhole
 pub mod AscendLaws
+pub mod FrontLaws
