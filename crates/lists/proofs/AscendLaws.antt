@@ -1,13 +1,14 @@
 -- Ascending lists: entries kept from a span ascend, and what ascends has no repeats. Assumes nothing.
 use Prim.Native.Nat.{ℕ, zero, suc, _+_, _≤_, _<_}
-use mathlib.Core.Path.{_≡_, refl}
+use mathlib.Core.Path.{_≡_, refl, ap, _∙_}
 use mathlib.Core.Logic.{_⊎_, inl, inr}
 use mathlib.Core.Bool.{Bool, true, false}
-use mathlib.Core.List.{List, [], _∷_}
+use mathlib.Core.List.{List, [], _∷_, map}
 use native.Mathlib.Omega.{arith}
+use lib.ListN.{length, getD}
 use lib.Dec.{ltb}
 use borrow.Author.Tests.{ltb-true, ltb-false, lt-ltb}
-use Rattle.lists.proofs.MemberLaws.{member-cases, member-none, member-head, member-tail}
+use Rattle.lists.proofs.MemberLaws.{member-cases, member-none, member-head, member-tail, member-keep, keep-member}
 use Rattle.lists.proofs.TestLaws.{and-true, true-and, false-of}
 use Rattle.lists.specs.Lists.{member, add, keep, span, ascends, Distinct}
 
@@ -84,3 +85,31 @@ member-span (suc k) a x h g = go (ltb a x) refl (member-span k (suc a) x)
     go : (t : Bool) → ltb a x ≡ t → (suc a ≤ x → x < suc a + k → member x (span k (suc a)) ≡ true) → member x (a ∷ span k (suc a)) ≡ true
     go true q ih = member-tail x a (span k (suc a)) (ih (omega (arith, ltb-true a x q)) (omega arith))
     go false q ih = let z : x ≡ a = omega (arith, ltb-false a x q) in rw z (member-head a (span k (suc a)))
+
+-- the first entry kept from a span is the lowest that passes the test
+pub keep-lowest : (f : ℕ → Bool) (k a i : ℕ) (is : List ℕ) → keep f (span k a) ≡ i ∷ is → (j : ℕ) → a ≤ j → j < i → f j ≡ false
+keep-lowest f k a i is e j h g = false-of (f j) (λ t. absurd (omega (arith, least t)))
+  where
+    first : member i (keep f (span k a)) ≡ true
+    first = rw e (member-head i is)
+
+    r : Rising a (i ∷ is)
+    r = rw e at (keep-rising f k a)
+
+    least : f j ≡ true → i ≤ j
+    least t =
+        let s = span-member k a i (keep-member f i (span k a) first .0) in
+        let m : member j (i ∷ is) ≡ true = rw e at (member-keep f j (span k a) (member-span k a j h (omega (arith, s .1))) t) in
+        rising-member i (i ∷ is) (omega arith, r .1) j m
+
+pub length-span : (k a : ℕ) → length (span k a) ≡ k
+unfolding span
+length-span zero a = refl
+length-span (suc k) a = ap suc (length-span k (suc a))
+
+-- a function over a span, by number
+pub map-span-at : (f : ℕ → ℕ) (k a i : ℕ) → i < k → getD (map f (span k a)) i 0 ≡ f (a + i)
+unfolding span
+map-span-at f zero a i h = absurd (omega arith)
+map-span-at f (suc k) a zero h = let e : a ≡ a + 0 = omega arith in ap f e
+map-span-at f (suc k) a (suc i) h = let e : suc a + i ≡ a + suc i = omega arith in map-span-at f k (suc a) i (omega arith) ∙ ap f e

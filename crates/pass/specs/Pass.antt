@@ -1,10 +1,12 @@
 -- The operation pass: its answer on every input, and what it leaves (document 01, 'The operations and what they refuse').
-use Prim.Native.Nat.{ℕ}
-use mathlib.Core.List.{List}
-use lib.ListN.{length}
+use Prim.Native.Nat.{ℕ, suc}
+use mathlib.Core.Path.{_≡_}
+use mathlib.Core.List.{List, []}
+use lib.ListN.{length, getD}
 use lib.Dec.{ltb}
 use Rattle.lists.specs.Lists.{pick, front}
 use Rattle.varint.specs.Varint.{Read, got, refuse, after}
+use Rattle.sheet.specs.Slip.{Slip, readSlip}
 use Rattle.sheet.specs.Lent.{workNumbers, zeroed, workAfter}
 use Rattle.pass.specs.Accepted.{accepted}
 use Rattle.pass.specs.Verdict.{verdict, passSlip}
@@ -41,3 +43,23 @@ passOn sheet = answerOf (after (accepted sheet) (λ S rest. got (passSlip S (ver
 -- pass, for every sheet, work and slip
 unfoldable pub passed : List ℕ → List ℕ → List ℕ → Outcome
 passed sheet work slip = outcome (lentEnough work slip (passOn sheet)) work slip
+
+-- What a slip says: its first number and each mark is below 128, and so one byte.
+abbrev pub verdictIn : List ℕ → ℕ
+verdictIn slip = getD slip 0 0
+
+abbrev pub markIn : List ℕ → ℕ → ℕ
+markIn slip i = getD slip (suc i) 0
+
+-- The pass on a sheet refuses its round, and its slip has these goals and reasons (`readSlip` takes no slip of verdict 0).
+pub record Refuses (sheet : List ℕ) (s : Slip) : Type 0 where
+  pub slip : List ℕ
+  pub finishes : passOn sheet ≡ finished slip
+  pub says : readSlip slip ≡ got s []
+
+-- An item ends shut: the slip for the sheet has verdict 0 and mark 2 for the item.
+pub record EndsForbidden (sheet : List ℕ) (i : ℕ) : Type 0 where
+  pub slip : List ℕ
+  pub finishes : passOn sheet ≡ finished slip
+  pub stands : verdictIn slip ≡ 0
+  pub mark : markIn slip i ≡ 2

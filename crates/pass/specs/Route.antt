@@ -1,12 +1,13 @@
--- A route (document 01: a round).
+-- A route (document 01: a round), and what the marks demand of it.
 use Prim.Native.Nat.{ℕ, _≤_}
 use mathlib.Core.Path.{_≡_}
-use mathlib.Core.Bool.{true}
+use mathlib.Core.Bool.{true, _||_}
 use mathlib.Core.List.{List}
 use Rattle.lists.specs.Lists.{keep, Distinct}
 use Rattle.walks.specs.Graph.{touched, len, fit}
-use Rattle.sheet.specs.Sheet.{Sheet, isMandatory, isForbidden, allItems}
+use Rattle.sheet.specs.Sheet.{Sheet, isMandatory, isForbidden, allItems, allNodes, allArcs, endsMandatory}
 
+-- the mandatory items
 unfoldable pub mandatory : Sheet → List ℕ
 mandatory S = keep (isMandatory S) (allItems (S .graph))
 
@@ -15,3 +16,7 @@ pub record Route (S : Sheet) (w : List ℕ) : Type 0 where
   pub obeys : fit (S .graph) (isForbidden S) (mandatory S) (S .source) (S .target) w ≡ true
   pub simple : Distinct (touched (S .graph) (S .source) w)
   pub short : len (S .graph) w ≤ S .limit
+
+-- all mandatory nodes and all ends of mandatory arcs
+unfoldable pub demandedNodes : Sheet → List ℕ
+demandedNodes S = keep (λ p. isMandatory S p || endsMandatory S p (allArcs (S .graph))) (allNodes (S .graph))

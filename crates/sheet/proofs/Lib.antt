@@ -1,3 +1,4 @@
 pub mod SheetLaws
+pub mod RequiredLaws
 pub mod SlipLaws
 pub mod ArcViewLaws

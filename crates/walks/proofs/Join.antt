@@ -2,12 +2,13 @@
 use Prim.Native.Nat.{ℕ, _+_, _<_}
 use mathlib.Core.Path.{_≡_, refl, sym, subst}
 use mathlib.Core.Logic.{_⊎_, inl, inr}
-use mathlib.Core.Bool.{Bool, true, false}
+use mathlib.Core.Bool.{not, _&&_, Bool, true, false}
 use mathlib.Core.List.{List, [], _∷_, _++_}
 use native.Mathlib.Omega.{arith}
 use Rattle.lists.proofs.MemberLaws.{member-head, member-tail, member-none, every-at, every-all, member-cases}
+use Rattle.lists.proofs.TestLaws.{and-true, not-true}
 use Rattle.lists.specs.Lists.{member, every}
-use Rattle.walks.specs.Graph.{Graph, headOf, arcItem, items, len, meets}
+use Rattle.walks.specs.Graph.{Graph, headOf, arcItem, items, len, meets, tailOf, chain, clear, fit}
 use Rattle.walks.specs.Walk.{Walk}
 
 module _ (G : Graph) where
@@ -81,3 +82,52 @@ module _ (G : Graph) (closed : ℕ → Bool) where
   pub walk-last : (a b : ℕ) (w : List ℕ) → Walk G closed a b w → (b < G .nodes) × (closed b ≡ false)
   walk-last a b [] W = subst (λ (x : ℕ). (x < G .nodes) × (closed x ≡ false)) (W .there) (W .node, W .open-node)
   walk-last a b (l ∷ w) W = walk-last (headOf G l) b w (W .1)
+
+-- a walk that uses an arc touches its ends
+module _ (G : Graph) (closed : ℕ → Bool) (b : ℕ) where
+  pub ends-met : (l a : ℕ) (w : List ℕ) → Walk G closed a b w → member (arcItem G l) (items G a w) ≡ true
+      → (member (tailOf G l) (items G a w) ≡ true) × (member (headOf G l) (items G a w) ≡ true)
+  unfolding items arcItem member
+  ends-met l a [] W e = go (member-cases (G .nodes + l) a [] e)
+    where
+      go : (G .nodes + l ≡ a) ⊎ (member (G .nodes + l) [] ≡ true) → (member (tailOf G l) (a ∷ []) ≡ true) × (member (headOf G l) (a ∷ []) ≡ true)
+      go (inl q) = absurd (omega (arith, W .node))
+      go (inr q) = absurd (member-none (G .nodes + l) q)
+  ends-met l a (l′ ∷ w) W e = go (member-cases (G .nodes + l) a ((G .nodes + l′) ∷ items G (headOf G l′) w) e) (ends-met l (headOf G l′) w (W .1))
+    where
+      rest : List ℕ
+      rest = items G (headOf G l′) w
+
+      Met : List ℕ → Type 0
+      Met its = (member (tailOf G l) its ≡ true) × (member (headOf G l) its ≡ true)
+
+      go₁ : (G .nodes + l ≡ G .nodes + l′) ⊎ (member (G .nodes + l) rest ≡ true) → (member (G .nodes + l) rest ≡ true → Met rest) → Met (a ∷ (G .nodes + l′) ∷ rest)
+      go₁ (inl q) ih =
+          let l≡ : l ≡ l′ = omega arith in (
+            rw (l≡, W .0 .leaves) (member-head a ((G .nodes + l′) ∷ rest)),
+            rw l≡ (member-tail (headOf G l′) a ((G .nodes + l′) ∷ rest) (member-tail (headOf G l′) (G .nodes + l′) rest (first-item G (headOf G l′) w))),
+          )
+      go₁ (inr q) ih = (
+        member-tail (tailOf G l) a ((G .nodes + l′) ∷ rest) (member-tail (tailOf G l) (G .nodes + l′) rest (ih q .0)),
+        member-tail (headOf G l) a ((G .nodes + l′) ∷ rest) (member-tail (headOf G l) (G .nodes + l′) rest (ih q .1)),
+      )
+
+      go : (G .nodes + l ≡ a) ⊎ (member (G .nodes + l) ((G .nodes + l′) ∷ rest) ≡ true) → (member (G .nodes + l) rest ≡ true → Met rest)
+          → Met (a ∷ (G .nodes + l′) ∷ rest)
+      go (inl q) ih = absurd (omega (arith, W .0 .node))
+      go (inr q) ih = go₁ (member-cases (G .nodes + l) (G .nodes + l′) rest q) ih
+
+-- a walk touches its last node
+pub last-item : (G : Graph) (closed : ℕ → Bool) (a b : ℕ) (w : List ℕ) → Walk G closed a b w → member b (items G a w) ≡ true
+unfolding items
+last-item G closed a b [] W = rw (← (W .there)) (member-head a [])
+last-item G closed a b (l ∷ w) W = member-tail b a (arcItem G l ∷ items G (headOf G l) w) (member-tail b (arcItem G l) (items G (headOf G l) w) (last-item G closed (headOf G l) b w (W .1)))
+
+-- a walk that fits meets nothing closed
+pub fit-clear : (G : Graph) (closed : ℕ → Bool) (goals : List ℕ) (a b : ℕ) (w : List ℕ) (i : ℕ) → fit G closed goals a b w ≡ true
+    → member i (items G a w) ≡ true → closed i ≡ false
+unfolding fit clear
+fit-clear G closed goals a b w i e m =
+    let s = and-true (chain G a b w) (clear G closed a w && meets G goals a w) e in
+    let t = and-true (clear G closed a w) (meets G goals a w) (s .1) in
+    not-true (closed i) (every-at (λ i. not (closed i)) (items G a w) i (t .0) m)

@@ -1,0 +1,161 @@
+-- Demand 2, over bytes, for every sheet that draws none of 3 to 14. Each statement speaks of walks, and of the slip that pass writes.
+-- Assumes nothing.
+use Prim.Native.Nat.{ℕ, suc, _+_, _≤_, _<_}
+use mathlib.Core.Path.{_≡_, refl, sym, ap, _∙_, subst}
+use mathlib.Core.Logic.{_⊎_, inl, inr, _↔_}
+use mathlib.Core.Bool.{Bool, true, false, _||_, true≢false}
+use mathlib.Core.List.{List, [], _∷_}
+use native.Mathlib.Omega.{arith}
+use lib.ListN.{length}
+use lib.Dec.{eqb}
+use borrow.Author.Tests.{eqb-true, eqb-false}
+use Rattle.lists.proofs.AscendLaws.{span-member, member-span}
+use Rattle.lists.proofs.MemberLaws.{member-keep, keep-member, member-none}
+use Rattle.lists.proofs.TestLaws.{true-or, or-true, true-or-false}
+use Rattle.lists.specs.Lists.{member}
+use Rattle.sheet.proofs.RequiredLaws.{required-is, is-required}
+use Rattle.sheet.proofs.SheetLaws.{Good}
+use Rattle.sheet.proofs.SlipLaws.{slip-back}
+use Rattle.sheet.specs.Sheet.{Sheet, isOpen, isMandatory, isForbidden, allNodes, allArcs, endsMandatory, required}
+use Rattle.sheet.specs.Slip.{readSlip, Slip, as17}
+use Rattle.varint.proofs.VarintLaws.{got-both}
+use Rattle.varint.specs.Varint.{got, number, judged, readNumber, readGroups, lastGroup, after}
+use Rattle.walks.proofs.FitsLaws.{fit-narrower}
+use Rattle.walks.proofs.Join.{meets-all, meets-at, first-item, last-item}
+use Rattle.walks.proofs.LeastLaw.{fit-walk, walk-fit}
+use Rattle.walks.specs.Graph.{itemCount, items, fit, meets}
+use Rattle.walks.specs.Walk.{Walk}
+use Rattle.pass.proofs.AcceptedLaws.{accepted-got, accepted-good}
+use Rattle.pass.proofs.RouteLaws.{route-stands, route-clear, route-meets}
+use Rattle.pass.proofs.SlipOfPass.{PassSlipIs, marks, blames, pass-slip-is, pass-finishes, pass-verdict-in, pass-mark-in}
+use Rattle.pass.proofs.VerdictLaws.{NoWalkOn, sheet-none, none-sheet, stands-all, all-stands, pruned-mark, VerdictIs, verdict-is, one, two, three, stands}
+use Rattle.pass.specs.Accepted.{accepted}
+use Rattle.pass.specs.Pass.{finished, passOn, verdictIn, markIn, Refuses}
+use Rattle.pass.specs.Route.{Route, demandedNodes}
+use Rattle.pass.specs.Verdict.{verdict, newMark, slipFor, passSlip, Verdict, newMarks}
+
+-- the round is refused when a walk is missing for one mandatory mark, or for all mandatory nodes and ends of mandatory arcs together
+abbrev pub Refusal : Sheet → Type 0
+Refusal S =
+    ((i : ℕ) × (i < itemCount (S .graph)) × (isMandatory S i ≡ true) × NoWalkOn S (i ∷ []))
+    ⊎ NoWalkOn S (demandedNodes S)
+
+-- every walk from source to target touches both, so that meeting the required nodes is meeting all demanded ones
+demanded-required : (S : Sheet) → NoWalkOn S (demandedNodes S) ↔ NoWalkOn S (required S)
+unfolding demandedNodes allNodes
+demanded-required S = (λ n w e. n w (more w e), λ n w e. n w (fewer w e))
+  where
+    demanded : ℕ → Bool
+    demanded p = isMandatory S p || endsMandatory S p (allArcs (S .graph))
+
+    more : (w : List ℕ) → fit (S .graph) (isForbidden S) (required S) (S .source) (S .target) w ≡ true
+        → fit (S .graph) (isForbidden S) (demandedNodes S) (S .source) (S .target) w ≡ true
+    more w e =
+        let f = fit-walk (S .graph) (isForbidden S) (required S) (S .target) (S .source) w e in
+        walk-fit (S .graph) (isForbidden S) (demandedNodes S) (S .target) (S .source) w (f .0)
+        (meets-all (S .graph) (demandedNodes S) (S .source) w (λ p m. go w f p (keep-member demanded p (allNodes (S .graph)) m) (true-or-false (eqb p (S .source))) (true-or-false (eqb p (S .target)))))
+      where
+        go : (w : List ℕ) → Walk (S .graph) (isForbidden S) (S .source) (S .target) w × (meets (S .graph) (required S) (S .source) w ≡ true) → (p : ℕ)
+            → (member p (allNodes (S .graph)) ≡ true) × (demanded p ≡ true) → (eqb p (S .source) ≡ true) ⊎ (eqb p (S .source) ≡ false) → (eqb p (S .target) ≡ true) ⊎ (eqb p (S .target) ≡ false)
+            → member p (items (S .graph) (S .source) w) ≡ true
+        go w f p k (inl q) r = rw (eqb-true p (S .source) q) (first-item (S .graph) (S .source) w)
+        go w f p k (inr q) (inl r) = rw (eqb-true p (S .target) r) (last-item (S .graph) (isForbidden S) (S .source) (S .target) w (f .0))
+        go w f p k (inr q) (inr r) =
+            meets-at (S .graph) (required S) (S .source) w p (f .1)
+            (is-required S p
+            (record { node = omega (arith, span-member (S .graph .nodes) 0 p (k .0) .1); between = (eqb-false p (S .source) q, eqb-false p (S .target) r); demanded = or-true (isMandatory S p) (endsMandatory S p (allArcs (S .graph))) (k .1) }))
+
+    fewer : (w : List ℕ) → fit (S .graph) (isForbidden S) (demandedNodes S) (S .source) (S .target) w ≡ true
+        → fit (S .graph) (isForbidden S) (required S) (S .source) (S .target) w ≡ true
+    fewer w e = fit-narrower (S .graph) (isForbidden S) (isForbidden S) (demandedNodes S) (required S) (S .source) (S .target) w (λ i h o. o) inside e
+      where
+        either : (p : ℕ) → (isMandatory S p ≡ true) ⊎ (endsMandatory S p (allArcs (S .graph)) ≡ true) → demanded p ≡ true
+        either p (inl q) = rw q
+        either p (inr q) = true-or (isMandatory S p) (endsMandatory S p (allArcs (S .graph))) q
+
+        inside : (p : ℕ) → member p (required S) ≡ true → member p (demandedNodes S) ≡ true
+        inside p m =
+            let r = required-is S p m in
+            member-keep demanded p (allNodes (S .graph)) (member-span (S .graph .nodes) 0 p (omega arith) (omega (arith, r .node))) (either p (r .demanded))
+
+-- where the verdict is not 0, a walk is missing, and the other way
+refusal-is : (S : Sheet) → (verdict S .number ≡ 0 → ⊥) → Refusal S
+refusal-is S n = go (verdict S) (verdict-is S) n
+  where
+    go : (v : Verdict) → VerdictIs S v → (v .number ≡ 0 → ⊥) → Refusal S
+    go v (one e) n = inr (λ w f. sheet-none S [] e w (fit-narrower (S .graph) (isForbidden S) (isForbidden S) (demandedNodes S) [] (S .source) (S .target) w (λ i h o. o) (λ g m. absurd (member-none g m)) f))
+    go v (two i s h m e l) n = inl (i, h, m, sheet-none S (i ∷ []) e)
+    go v (three s m e) n = inr (demanded-required S .1 (sheet-none S (required S) e))
+    go v (stands s m e) n = absurd (n refl)
+
+is-refusal : (S : Sheet) → Refusal S → verdict S .number ≡ 0 → ⊥
+is-refusal S (inl r) e = true≢false (sym (stands-all S e .each (r .0) (r .1) (r .2)) ∙ none-sheet S (r .0 ∷ []) (r .3))
+is-refusal S (inr n) e = true≢false (sym (stands-all S e .together) ∙ none-sheet S (required S) (demanded-required S .0 n))
+
+-- no slip of verdict 0 reads as one with goals and reasons
+no-marks : (ms : List ℕ) (s : Slip) → readSlip (0 ∷ ms) ≡ got s [] → ⊥
+unfolding readSlip number judged readNumber readGroups lastGroup after as17
+no-marks ms s e = let z : _≡_ {A = ℕ} 0 1 = cc in omega arith
+
+finished-is : (xs ys : List ℕ) → finished xs ≡ finished ys → xs ≡ ys
+finished-is xs ys e = cc
+
+module _ (sheet : List ℕ) (S : Sheet) (a : accepted sheet ≡ got S []) where
+  good : Good S
+  good = accepted-good sheet S [] a
+
+  few : length (required S) ≤ 8
+  few = accepted-got sheet S [] a .0 .few
+
+  -- the slip that pass writes is that of the verdict
+  slip-is : (slip : List ℕ) → passOn sheet ≡ finished slip → passSlip S (verdict S) ≡ slip
+  slip-is slip e = finished-is (passSlip S (verdict S)) slip (sym (pass-finishes sheet S a) ∙ e)
+
+  pub verdict-in : (slip : List ℕ) → passOn sheet ≡ finished slip → verdictIn slip ≡ verdict S .number
+  verdict-in slip e = rw (← (slip-is slip e)) (pass-verdict-in S good few)
+
+  -- under verdict 0 each item has the mark that document 01 gives it
+  pub marks-exact : (slip : List ℕ) → passOn sheet ≡ finished slip → verdictIn slip ≡ 0 → (i : ℕ) → i < itemCount (S .graph) → markIn slip i ≡ newMark S i
+  marks-exact slip e z i h = rw (← (slip-is slip e)) (pass-mark-in S good few (sym (verdict-in slip e) ∙ z) i h)
+
+  -- Unless the round is refused, an open item is pruned exactly when no walk from source to target through it, clear of everything forbidden,
+  -- keeps to the limit.
+  pub prune-exact : (slip : List ℕ) → passOn sheet ≡ finished slip → verdictIn slip ≡ 0 → (i : ℕ) → i < itemCount (S .graph) → isOpen S i ≡ true
+      → (markIn slip i ≡ 2) ↔ NoWalkOn S (i ∷ [])
+  prune-exact slip e z i h o =
+      let m = marks-exact slip e z i h in
+      (λ q. sheet-none S (i ∷ []) (pruned-mark S i o .0 (sym m ∙ q)), λ n. m ∙ pruned-mark S i o .1 (none-sheet S (i ∷ []) n))
+
+  -- A slip of pass that has goals and reasons is that of a refused round, and the other way.
+  pub refuses-is : (s : Slip) → Refuses sheet s → (verdict S .number ≡ 0 → ⊥) × (s ≡ slipFor S (verdict S .number) (verdict S .goals))
+  refuses-is s r = go (passSlip S (verdict S)) (pass-slip-is S good few) (ap readSlip (slip-is (r .slip) (r .finishes)) ∙ r .says)
+    where
+      go : (bs : List ℕ) → PassSlipIs S bs → readSlip bs ≡ got s [] → (verdict S .number ≡ 0 → ⊥) × (s ≡ slipFor S (verdict S .number) (verdict S .goals))
+      go bs (marks e) q = absurd (no-marks (newMarks S) s q)
+      go bs (blames l b) q =
+          (λ z. absurd (omega (arith, l, z)), sym (got-both (slipFor S (verdict S .number) (verdict S .goals)) s [] [] (sym (slip-back (slipFor S (verdict S .number) (verdict S .goals)) b) ∙ q) .0))
+
+  pub is-refused : (verdict S .number ≡ 0 → ⊥) → Refuses sheet (slipFor S (verdict S .number) (verdict S .goals))
+  is-refused n = go (passSlip S (verdict S)) (pass-slip-is S good few) (pass-finishes sheet S a)
+    where
+      go : (bs : List ℕ) → PassSlipIs S bs → passOn sheet ≡ finished bs → Refuses sheet (slipFor S (verdict S .number) (verdict S .goals))
+      go bs (marks e) q = absurd (n e)
+      go bs (blames l b) q = record { slip = bs; finishes = q; says = slip-back (slipFor S (verdict S .number) (verdict S .goals)) b }
+
+  -- A round is refused exactly when such a walk is missing for one mandatory mark, or for all mandatory nodes and ends of mandatory arcs together.
+  pub refuse-exact : ((s : Slip) × Refuses sheet s) ↔ Refusal S
+  refuse-exact = (
+    λ r. refusal-is S (refuses-is (r .0) (r .1) .0),
+    λ r. (slipFor S (verdict S .number) (verdict S .goals), is-refused (is-refusal S r)),
+  )
+
+  -- So no simple route that obeys the marks is lost: the round stands, the route is clear of what the pass forbids and meets what it makes mandatory.
+  pub route-kept : (w : List ℕ) → Route S w
+      → (slip : List ℕ) × (passOn sheet ≡ finished slip) × (verdictIn slip ≡ 0)
+      × ((i : ℕ) → i < itemCount (S .graph) → markIn slip i ≡ 2 → member i (items (S .graph) (S .source) w) ≡ false)
+      × ((i : ℕ) → i < itemCount (S .graph) → markIn slip i ≡ 1 → member i (items (S .graph) (S .source) w) ≡ true)
+  route-kept w R =
+      let slip = passSlip S (verdict S) in
+      let e : passOn sheet ≡ finished slip = pass-finishes sheet S a in
+      let z : verdictIn slip ≡ 0 = verdict-in slip e ∙ all-stands S (route-stands S w R) in
+      (slip, e, z, λ i h q. route-clear S w R i (sym (marks-exact slip e z i h) ∙ q), λ i h q. route-meets S w R i h (sym (marks-exact slip e z i h) ∙ q))

@@ -1,0 +1,5 @@
+pub mod AcceptedLaws
+pub mod VerdictLaws
+pub mod SlipOfPass
+pub mod RouteLaws
+pub mod Demand2
