@@ -126,7 +126,7 @@ stands-meets S T e s t z (item i h) d = go (d i (member-head i []))
 stands-meets S T e s t z all d = fits-fewer T (required T) (required S) (λ g m. required-there S T e s t g m (d g m)) (z .together)
 
 -- what reason finishes with
-explained : (sheet : List ℕ) (S : Sheet) (i : ℕ) (s : Slip) → accepted sheet ≡ got S [] → Explains sheet i s
+pub explained : (sheet : List ℕ) (S : Sheet) (i : ℕ) (s : Slip) → accepted sheet ≡ got S [] → Explains sheet i s
     → (i < itemCount (S .graph)) × (verdict S .number ≡ 0) × (isPruned S i ≡ true) × (s ≡ slipFor S 4 (i ∷ []))
 unfolding reasonOn reasonIn prunes answerOf after
 explained sheet S i s a x = go (ltb i (itemCount (S .graph))) refl (eqb (verdict S .number) 0 && isPruned S i) refl (x .finishes)
@@ -206,8 +206,7 @@ module _ (sheet : List ℕ) (S : Sheet) (a : accepted sheet ≡ got S []) where
       let y = refuses-is sheet S a s r in
       let L′ : Later S (reasonsFor S (verdict S .goals)) later T = subst (λ (s : Slip). Later S (s .reasons) later T) (y .1) L in
       let d′ : (g : ℕ) → member g (verdict S .goals) ≡ true → Demanded T g = subst (λ (s : Slip). (g : ℕ) → member g (s .goals) ≡ true → Demanded T g) (y .1) d in
-      let b = list-blocks S (verdict S .goals) later T (refused-goals S (y .0)) L′ in
-      (
+      let b = list-blocks S (verdict S .goals) later T (refused-goals S (y .0)) L′ in (
         slipFor T (verdict T .number) (verdict T .goals),
         is-refused later T (L .accepts) (λ z. true≢false (sym (stands-meets S T (L .map) (L .source) (L .target) (stands-all T z) (verdict-names S (y .0)) d′) ∙ b)),
       )

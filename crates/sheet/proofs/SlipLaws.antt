@@ -6,11 +6,11 @@ use mathlib.Core.List.{List, [], _∷_, _++_, append-nil, append-assoc}
 use native.Mathlib.Omega.{arith}
 use lib.ListN.{length, length-append}
 use lib.Dec.{leb}
-use borrow.Author.Tests.{le-leb}
+use borrow.Author.Tests.{le-leb, leb-true}
 use Rattle.lists.proofs.Pigeonhole.{Below, below-append, below-le}
-use Rattle.lists.proofs.TestLaws.{true-and}
-use Rattle.varint.proofs.VarintLaws.{number-back, numbers-back, numbers-size, numbers-append, got-number}
-use Rattle.varint.specs.Varint.{got, after, readNumber, number, writeNumber, writeNumbers}
+use Rattle.lists.proofs.TestLaws.{true-and, and-true}
+use Rattle.varint.proofs.VarintLaws.{number-back, numbers-back, numbers-size, numbers-append, got-number, after-got, number-got}
+use Rattle.varint.specs.Varint.{got, after, readNumber, number, writeNumber, writeNumbers, refuse, Read}
 use Rattle.sheet.specs.Slip.{Slip, slipNumbers, slipBytes, marksBytes, readList, slipEnd, slipReasons, slipGoals, as17, readSlip}
 
 -- a slip as pass and reason write it: at most eight goals and 576 reasons
@@ -67,3 +67,30 @@ slip-back s b =
     let end : readList tail ≡ got (s .reasons) [] =
     ap readList (sym (append-nil tail)) ∙ list-back (s .reasons) [] (omega (arith, b .many)) r in
     rw (first, list-back (s .goals) tail (omega (arith, b .few)) g, end)
+
+kept-of : (r : Read Slip) (s : Slip) (rest : List ℕ) → as17 r ≡ got s rest → r ≡ got s rest
+unfolding as17
+kept-of (got x bs) s rest e = e
+kept-of (refuse w) s rest e = absurd (let z : _≡_ {A = ℕ} 0 1 = cc in omega arith)
+
+end-of : (s s′ : Slip) (bs rest : List ℕ) → slipEnd s bs ≡ got s′ rest → (s ≡ s′) × (rest ≡ [])
+unfolding slipEnd
+end-of s s′ [] rest e = (cc, cc)
+end-of s s′ (b ∷ bs) rest e = absurd (let z : _≡_ {A = ℕ} 0 1 = cc in omega arith)
+
+firsts : (v : ℕ) (bs : List ℕ) (s : Slip) (rest : List ℕ) → slipGoals v bs ≡ got s rest → (s .first ≡ v) × (rest ≡ [])
+unfolding slipGoals slipReasons
+firsts v bs s rest e =
+    let a = after-got (readList bs) (slipReasons v) s rest e in
+    let b = after-got (readList (a .1)) (λ rs. slipEnd (record { first = v; goals = a .0; reasons = rs })) s rest (a .3) in
+    let c = end-of (record { first = v; goals = a .0; reasons = b .0 }) s (b .1) rest (b .3) in
+    (ap (λ (s : Slip). s .first) (sym (c .0)), c .1)
+
+-- a slip that was read has a first number of 1 to 4, and nothing is left
+pub slip-read : (bs : List ℕ) (s : Slip) (rest : List ℕ) → readSlip bs ≡ got s rest → (1 ≤ s .first) × (s .first ≤ 4) × (rest ≡ [])
+unfolding readSlip
+slip-read bs s rest e =
+    let a = after-got (number 17 (λ x. leb 1 x && leb x 4) bs) slipGoals s rest (kept-of (after (number 17 (λ x. leb 1 x && leb x 4) bs) slipGoals) s rest e) in
+    let p = and-true (leb 1 (a .0)) (leb (a .0) 4) (number-got 17 (λ x. leb 1 x && leb x 4) bs (a .0) (a .1) (a .2) .0) in
+    let f = firsts (a .0) (a .1) s rest (a .3) in
+    (rw (f .0) (leb-true 1 (a .0) (p .0)), rw (f .0) (leb-true (a .0) 4 (p .1)), f .1)
