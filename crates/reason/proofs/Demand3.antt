@@ -3,13 +3,13 @@
 use Prim.Native.Nat.{ℕ, zero, suc, _≤_, _<_}
 use mathlib.Core.Path.{_≡_, refl, sym, ap, _∙_, subst}
 use mathlib.Core.Logic.{_⊎_, inl, inr}
-use mathlib.Core.Bool.{Bool, true, false, not, _&&_, true≢false}
+use mathlib.Core.Bool.{true, false, not, true≢false}
 use mathlib.Core.List.{List, [], _∷_}
 use native.Mathlib.Omega.{arith}
 use lib.ListN.{getD}
 use lib.Seq.{ext-getD}
-use lib.Dec.{eqb, ltb}
-use borrow.Author.Tests.{eqb-true, eqb-false, ltb-true, lt-ltb, eq-eqb}
+use lib.Dec.{eqb}
+use borrow.Author.Tests.{eqb-true, eqb-false}
 use Rattle.explain.proofs.ReasonLaws.{reasons-closed, reasons-valid, reasons-minimal}
 use Rattle.explain.specs.Reasons.{but}
 use Rattle.lists.proofs.MemberLaws.{member-head, member-cases, member-none}
@@ -17,23 +17,21 @@ use Rattle.lists.proofs.TestLaws.{false-back, and-true, not-true, true-or-false
 use Rattle.lists.specs.Lists.{member}
 use Rattle.pass.proofs.AcceptedLaws.{accepted-good}
 use Rattle.pass.proofs.Demand2.{verdict-in, marks-exact, refuses-is, is-refused}
-use Rattle.pass.proofs.SlipOfPass.{slip-small, pass-finishes}
+use Rattle.pass.proofs.SlipOfPass.{pass-finishes}
 use Rattle.pass.proofs.VerdictLaws.{one, Stands, stands-all, fits-fewer, refused-goals, VerdictIs, verdict-is, two, three, stands, pruned-mark, other-mark}
 use Rattle.pass.specs.Accepted.{accepted}
-use Rattle.pass.specs.Pass.{finished, answerOf, Refuses, EndsForbidden}
+use Rattle.pass.specs.Pass.{Refuses, EndsForbidden}
 use Rattle.pass.specs.Verdict.{reasonsFor, fitsSheet, slipFor, Verdict, verdict, isPruned, newMark, passSlip}
 use Rattle.sheet.proofs.RequiredLaws.{required-is, is-required, open-is, is-open, is-mandatory}
 use Rattle.sheet.proofs.SheetLaws.{good-mark}
-use Rattle.sheet.proofs.SlipLaws.{slip-back}
 use Rattle.sheet.specs.Sheet.{Sheet, isForbidden, required, isOpen, markOf}
-use Rattle.sheet.specs.Slip.{Slip, slipBytes, readSlip}
-use Rattle.varint.proofs.VarintLaws.{got-both}
-use Rattle.varint.specs.Varint.{got, after}
+use Rattle.sheet.specs.Slip.{Slip}
+use Rattle.varint.specs.Varint.{got}
 use Rattle.walks.proofs.FitsLaws.{fits-anti, none-fits}
 use Rattle.walks.specs.Graph.{Graph, Arc, noArc, tailOf, headOf, weightOf, itemCount}
 use Rattle.walks.specs.Walk.{NoWalk, SomeWalk}
+use Rattle.reason.proofs.AnswerLaws.{explained}
 use Rattle.reason.specs.Later.{SameMap, Later, Explains, Demanded}
-use Rattle.reason.specs.Reason.{prunes, reasonIn, reasonOn}
 
 -- maps that agree arc by arc are one map
 arc-eq : (x y : Arc) → x .tail ≡ y .tail → x .head ≡ y .head → x .weight ≡ y .weight → x ≡ y
@@ -124,37 +122,6 @@ stands-meets S T e s t z (item i h) d = go (d i (member-head i []))
     go (inl m) = z .each i (rw (same-count S T e) h) m
     go (inr m) = fits-fewer T (required T) (i ∷ []) (λ j q. only m j (member-cases j i [] q)) (z .together)
 stands-meets S T e s t z all d = fits-fewer T (required T) (required S) (λ g m. required-there S T e s t g m (d g m)) (z .together)
-
--- what reason finishes with
-pub explained : (sheet : List ℕ) (S : Sheet) (i : ℕ) (s : Slip) → accepted sheet ≡ got S [] → Explains sheet i s
-    → (i < itemCount (S .graph)) × (verdict S .number ≡ 0) × (isPruned S i ≡ true) × (s ≡ slipFor S 4 (i ∷ []))
-unfolding reasonOn reasonIn prunes answerOf after
-explained sheet S i s a x = go (ltb i (itemCount (S .graph))) refl (eqb (verdict S .number) 0 && isPruned S i) refl (x .finishes)
-  where
-    bytes : finished (slipBytes (slipFor S 4 (i ∷ []))) ≡ finished (x .slip) → slipBytes (slipFor S 4 (i ∷ [])) ≡ x .slip
-    bytes e = cc
-
-    go : (t : Bool) → ltb i (itemCount (S .graph)) ≡ t → (p : Bool) → (eqb (verdict S .number) 0 && isPruned S i) ≡ p → reasonOn sheet i ≡ finished (x .slip)
-        → (i < itemCount (S .graph)) × (verdict S .number ≡ 0) × (isPruned S i ≡ true) × (s ≡ slipFor S 4 (i ∷ []))
-    go false t≡ p p≡ e = absurd (let y = rw (a, t≡) at e in let z : _≡_ {A = ℕ} 0 1 = cc in omega arith)
-    go true t≡ false p≡ e = absurd (let y = rw (a, t≡, p≡) at e in let z : _≡_ {A = ℕ} 0 1 = cc in omega arith)
-    go true t≡ true p≡ e =
-        let h = ltb-true i (itemCount (S .graph)) t≡ in
-        let k = and-true (eqb (verdict S .number) 0) (isPruned S i) p≡ in
-        let g = accepted-good sheet S [] a in
-        let m = slip-small S g 4 (i ∷ []) (omega arith) (omega arith) (omega arith) (h, tt) in
-        let y : finished (slipBytes (slipFor S 4 (i ∷ []))) ≡ finished (x .slip) = rw (a, t≡, p≡) at e in
-        (h, eqb-true (verdict S .number) 0 (k .0), k .1, sym (got-both (slipFor S 4 (i ∷ [])) s [] [] (sym (slip-back (slipFor S 4 (i ∷ [])) m) ∙ ap readSlip (bytes y) ∙ x .says) .0))
-
--- reason, asked for a pruned item, finishes (where work and slip are long enough)
-pub reason-finishes : (sheet : List ℕ) (S : Sheet) (i : ℕ) → accepted sheet ≡ got S [] → i < itemCount (S .graph) → verdict S .number ≡ 0 → isPruned S i ≡ true
-    → Explains sheet i (slipFor S 4 (i ∷ []))
-unfolding reasonOn reasonIn prunes answerOf after
-reason-finishes sheet S i a h z p = record {
-  slip = slipBytes (slipFor S 4 (i ∷ []));
-  finishes = rw (a, lt-ltb i (itemCount (S .graph)) h, eq-eqb (verdict S .number) 0 z, p);
-  says = slip-back (slipFor S 4 (i ∷ [])) (slip-small S (accepted-good sheet S [] a) 4 (i ∷ []) (omega arith) (omega arith) (omega arith) (h, tt));
-}
 
 -- a pruned item is met by no walk
 pruned-unmet : (S : Sheet) (i : ℕ) → isPruned S i ≡ true → fitsSheet S (i ∷ []) ≡ false

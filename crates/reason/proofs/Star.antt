@@ -2,16 +2,16 @@
 -- Assumes nothing.
 use Prim.Native.Nat.{ℕ}
 use mathlib.Core.Path.{_≡_, refl}
-use mathlib.Core.List.{List, [], _∷_, _++_}
+use mathlib.Core.List.{List, [], _∷_}
 use Rattle.explain.specs.Reasons.{greedy, reasons}
 use Rattle.lists.specs.Lists.{member, every, keep, add, span}
 use Rattle.pass.specs.Accepted.{overlong, shortEnough, accepted}
-use Rattle.pass.specs.Pass.{Answer, finished, refused, answerOf, passOn}
+use Rattle.pass.specs.Pass.{finished, answerOf, passOn}
 use Rattle.pass.specs.Verdict.{fitsSheet, unmet, verdictFrom, verdict, isPruned, isForced, newMark, newMarks, reasonsFor, slipFor, passSlip}
 use Rattle.sheet.specs.Reader.{arcMinutes, arcHead, readArc, readMark, readMarks, readArcs, readLimit, readTarget, readSource, readArcCount, readSheet, complete, taken}
 use Rattle.sheet.specs.Sheet.{markOf, isOpen, isMandatory, isForbidden, allItems, allNodes, allArcs, endsMandatory, isRequired, required}
 use Rattle.sheet.specs.Slip.{slipNumbers, slipBytes, marksBytes}
-use Rattle.varint.specs.Varint.{Read, after, lastGroup, above, readGroups, readNumber, judged, number, several, writeGroups, writeNumber, writeNumbers}
+use Rattle.varint.specs.Varint.{after, lastGroup, above, readGroups, readNumber, judged, number, several, writeGroups, writeNumber, writeNumbers}
 use Rattle.walks.specs.Graph.{noArc, tailOf, headOf, weightOf, arcItem, chain, items, len, clear, meets, fit, begin, onward, chains, against, leastOf, least, fits}
 use Rattle.walks.specs.Lengths.{lesser, within}
 use Rattle.reason.specs.Reason.{prunes, reasonIn, reasonOn}

@@ -20,7 +20,8 @@ use Rattle.pass.proofs.VerdictLaws.{VerdictIs, verdict-is, one, two, three, sta
 use Rattle.pass.specs.Accepted.{accepted}
 use Rattle.pass.specs.Pass.{Refuses}
 use Rattle.pass.specs.Verdict.{verdict, Verdict, fitsSheet, isPruned, reasonsFor, slipFor}
-use Rattle.reason.proofs.Demand3.{listed-forbidden, list-valid, explained}
+use Rattle.reason.proofs.AnswerLaws.{explained}
+use Rattle.reason.proofs.Demand3.{listed-forbidden, list-valid}
 use Rattle.reason.specs.Later.{Explains}
 use Rattle.sheet.proofs.RequiredLaws.{required-below}
 use Rattle.sheet.proofs.SlipLaws.{slip-read}

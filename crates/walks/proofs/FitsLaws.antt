@@ -1,6 +1,6 @@
 -- `fits` says whether a walk keeps to the limit; closing more, asking more and a smaller limit never bring one about. Assumes nothing.
 use Prim.Native.Nat.{ℕ, _+_, _≤_, _<_}
-use mathlib.Core.Path.{_≡_, refl, sym, _∙_}
+use mathlib.Core.Path.{_≡_, refl, sym, ap, _∙_}
 use mathlib.Core.Bool.{Bool, true, false, false≢true, true≢false}
 use mathlib.Core.List.{List, [], _∷_}
 use native.Mathlib.Omega.{arith}
@@ -62,6 +62,19 @@ closing-more G c c′ gs a b n = least-narrower G c c′ gs gs a b n (λ g m. m)
 
 pub asking-more : (G : Graph) (c : ℕ → Bool) (gs gs′ : List ℕ) (a b : ℕ) → Includes gs gs′ → Under (least G c gs′ a b) (least G c gs a b)
 asking-more G c gs gs′ a b i = least-narrower G c c gs gs′ a b (λ j h o. o) i
+
+under-both : (x y : Least) → Under x y → Under y x → x ≡ y
+under-both none none p q = refl
+under-both none (some b) p q = absurd p
+under-both (some a) none p q = absurd q
+under-both (some a) (some b) p q = let e : a ≡ b = omega arith in ap some e
+
+-- the least length depends only on which items are closed and which are goals
+pub least-same : (G : Graph) (c c′ : ℕ → Bool) (gs gs′ : List ℕ) (a b : ℕ) → ((i : ℕ) → i < itemCount G → c i ≡ c′ i) → Includes gs gs′ → Includes gs′ gs
+    → least G c gs a b ≡ least G c′ gs′ a b
+least-same G c c′ gs gs′ a b e i j =
+    under-both (least G c gs a b) (least G c′ gs′ a b) (least-narrower G c′ c gs′ gs a b (λ k h o. e k h ∙ o) j)
+    (least-narrower G c c′ gs gs′ a b (λ k h o. sym (e k h) ∙ o) i)
 
 module _ (G : Graph) (s t k : ℕ) (closed : ℕ → Bool) (goals : List ℕ) where
   pub fits-some : fits G s t k closed goals ≡ true → SomeWalk G s t k closed goals
