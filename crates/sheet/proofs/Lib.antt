@@ -1,3 +1,4 @@
 pub mod ReadLaws
 pub mod SectionLaws
 pub mod HeaderLaws
+pub mod RequiredLaws

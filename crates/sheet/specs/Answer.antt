@@ -1,11 +1,14 @@
 -- What the answers of the sheet's reader stand for in document 01, and what a read leaves in the arrays that it is lent.
-use Prim.Native.Nat.{ℕ, zero, suc, _≤_, _<_}
+use Prim.Native.Nat.{ℕ, zero, suc, _+_, _*_, _≤_, _<_}
+use mathlib.Core.Path.{_≡_}
 use mathlib.Core.Bool.{not, _&&_}
 use mathlib.Core.List.{List, [], _∷_}
-use lib.ListN.{length, drop}
+use lib.ListN.{length, getD, drop}
 use lib.Dec.{eqb, ltb, leb}
 use Rattle.varint.specs.Varint.{Read, got, refuse, after, number, several}
 use Rattle.walks.specs.Graph.{Arc}
+use Rattle.walks.specs.Flat.{graphOf}
+use Rattle.sheet.specs.Sheet.{Sheet, endsMandatory, allArcs}
 use Rattle.sheet.specs.declared.Judged.{Judged}
 use Rattle.sheet.specs.declared.Judged.the-variants.{Fine, Wrong}
 use Rattle.sheet.specs.declared.Header.{Header}
@@ -78,3 +81,17 @@ begun f (suc k) bs = ahead (f bs) (λ a rest. a ∷ begun f k rest)
 abbrev pub sectionOf : {A : Type 0} → List ℕ → List A → Section → Read (List A)
 sectionOf s xs (Ended next) = got xs (drop next s)
 sectionOf s xs (Refused e) = refuse e
+
+-- the sheet that the five numbers, the arcs' numbers and the marks make
+abbrev pub sheetOf : Header → List ℕ → List ℕ → Sheet
+sheetOf h arcs marks =
+    record { graph = graphOf (h .nodes) arcs; source = h .source; target = h .target; limit = h .limit; marks = marks }
+
+-- as many numbers as the header says
+abbrev pub Held : Header → List ℕ → List ℕ → Type 0
+Held h arcs marks = (length arcs ≡ 3 * h .arcs) × (length marks ≡ h .nodes + h .arcs)
+
+-- a 1 for each of the first 64 nodes that ends a mandatory arc
+pub record Ends (S : Sheet) (ends : List ℕ) : Type 0 where
+  pub size : length ends ≡ 64
+  pub each : (p : ℕ) → p < 64 → eqb (getD ends p 0) 1 ≡ endsMandatory S p (allArcs (S .graph))
