@@ -7,10 +7,8 @@ use native.Mathlib.Omega.{arith}
 use lib.Dec.{leb, eqb, leb·suc-suc}
 use borrow.Author.Tests.{le-leb, lt-leb, eq-eqb, ne-eqb}
 use Rattle.varint.specs.Varint.{Read, got, refuse, after, number, judged}
-use Rattle.sheet.specs.declared.Header.{Header}
-use Rattle.sheet.specs.Sheet.{Sheet}
-use Rattle.sheet.specs.Reader.{readArcs, readLimit, readTarget, readSource, readArcCount, readSheet}
-use Rattle.sheet.specs.Answer.{headerLimit, headerTarget, headerSource, headerArcs, readHeader}
+use Rattle.sheet.specs.Reader.{readLimit, readTarget, readSource, readArcCount, readSheet}
+use Rattle.sheet.specs.Answer.{headerLimit, headerTarget, headerSource, headerArcs, readHeader, behind}
 use Rattle.sheet.proofs.ReadLaws.{under, number-and, number-most}
 
 and-swap : (a b : Bool) → (a && b) ≡ (b && a)
@@ -80,10 +78,6 @@ module _ (s : List ℕ) where
                   → got (record { nodes = n; arcs = m; source = a; target = b; limit = k }) r₅ ≡ readHeader s
               unfolding headerLimit after
               header-read e = sym (from-target ∙ rw (number-most 8 1000000 r₄, ← e))
-
--- readSheet, behind its header
-abbrev pub behind : Header → List ℕ → Read Sheet
-behind h bs = readArcs (h .nodes) (h .arcs) (h .source) (h .target) (h .limit) bs
 
 after-after : {A B C : Type 0} (r : Read A) (f : A → List ℕ → Read B) (g : B → List ℕ → Read C) → after (after r f) g ≡ after r (λ a bs. after (f a bs) g)
 unfolding after

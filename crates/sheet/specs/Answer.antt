@@ -9,6 +9,7 @@ use Rattle.varint.specs.Varint.{Read, got, refuse, after, number, several}
 use Rattle.walks.specs.Graph.{Arc}
 use Rattle.walks.specs.Flat.{graphOf}
 use Rattle.sheet.specs.Sheet.{Sheet, endsMandatory, allArcs}
+use Rattle.sheet.specs.Reader.{readArc, readMark, readArcs}
 use Rattle.sheet.specs.declared.Judged.{Judged}
 use Rattle.sheet.specs.declared.Judged.the-variants.{Fine, Wrong}
 use Rattle.sheet.specs.declared.Header.{Header}
@@ -17,7 +18,9 @@ use Rattle.sheet.specs.declared.HeaderRead.the-variants.{Five, Fault}
 use Rattle.sheet.specs.declared.ArcRead.{ArcRead}
 use Rattle.sheet.specs.declared.ArcRead.the-variants.{Found, Not}
 use Rattle.sheet.specs.declared.Section.{Section}
-use Rattle.sheet.specs.declared.Section.the-variants.{Ended, Refused}
+use Rattle.sheet.specs.declared.Section.the-variants.{Ended, Stopped}
+use Rattle.sheet.specs.declared.SheetRead.{SheetRead}
+use Rattle.sheet.specs.declared.SheetRead.the-variants.{Taken, Refused}
 
 -- a number, an arc: the value with the bytes after it, or the refusal
 abbrev pub judgedOf : List ℕ → Judged → Read ℕ
@@ -80,7 +83,7 @@ begun f (suc k) bs = ahead (f bs) (λ a rest. a ∷ begun f k rest)
 -- its values xs with the bytes after them, or the refusal
 abbrev pub sectionOf : {A : Type 0} → List ℕ → List A → Section → Read (List A)
 sectionOf s xs (Ended next) = got xs (drop next s)
-sectionOf s xs (Refused e) = refuse e
+sectionOf s xs (Stopped e) = refuse e
 
 -- the sheet that the five numbers, the arcs' numbers and the marks make
 abbrev pub sheetOf : Header → List ℕ → List ℕ → Sheet
@@ -95,3 +98,29 @@ Held h arcs marks = (length arcs ≡ 3 * h .arcs) × (length marks ≡ h .nodes 
 pub record Ends (S : Sheet) (ends : List ℕ) : Type 0 where
   pub size : length ends ≡ 64
   pub each : (p : ℕ) → p < 64 → eqb (getD ends p 0) 1 ≡ endsMandatory S p (allArcs (S .graph))
+
+-- the whole sheet: its five numbers, or the refusal
+unfoldable pub headerOf : Sheet → Header
+headerOf S =
+    record { nodes = S .graph .nodes; arcs = length (S .graph .arcs); source = S .source; target = S .target; limit = S .limit }
+
+unfoldable pub answered : Read Sheet → SheetRead
+answered (got S rest) = Taken (headerOf S)
+answered (refuse e) = Refused e
+
+-- what follows the header
+abbrev pub behind : Header → List ℕ → Read Sheet
+behind h bs = readArcs (h .nodes) (h .arcs) (h .source) (h .target) (h .limit) bs
+
+-- the arcs and the marks that were read before the first fault: these a read leaves over the fronts of the arrays; all of them where there was none
+unfoldable pub arcsBehind : Header → List ℕ → List Arc
+arcsBehind h bs = begun (readArc (h .nodes)) (h .arcs) bs
+
+unfoldable pub marksBehind : Header → List ℕ → List ℕ
+marksBehind h bs = ahead (several (readArc (h .nodes)) (h .arcs) bs) (λ xs rest. begun readMark (h .nodes + h .arcs) rest)
+
+unfoldable pub arcsBegun : List ℕ → List Arc
+arcsBegun bs = ahead (readHeader bs) arcsBehind
+
+unfoldable pub marksBegun : List ℕ → List ℕ
+marksBegun bs = ahead (readHeader bs) marksBehind

@@ -2,14 +2,14 @@
 ghost use mathlib.Core.Path.{_≡_};
 ghost use Prim.Native.Nat.{ℕ, _+_, _-_, _*_, _≤_, _<_};
 ghost use mathlib.Core.Bool.{not, _&&_, _||_};
-ghost use lib.ListN.{length, drop, set};
-ghost use lib.Dec.{ltb, eqb};
+ghost use lib.ListN.{length, take, drop, set};
+ghost use lib.Dec.{ltb, leb, eqb};
 ghost use Rattle.lists.specs.Lists.{front, pick};
-ghost use Rattle.varint.specs.Varint.{number, several};
+ghost use Rattle.varint.specs.Varint.{after, number, several};
 ghost use Rattle.walks.specs.Flat.{flat};
-ghost use Rattle.sheet.specs.Reader.{readArc, readMark, taken};
+ghost use Rattle.sheet.specs.Reader.{readArc, readMark, complete, taken};
 ghost use Rattle.sheet.specs.Sheet.{required};
-ghost use Rattle.sheet.specs.Answer.{judgedOf, nextOf, headerIn, readHeader, HeaderFits, arcOf, sectionOf, begun, sheetOf, Held, Ends};
+ghost use Rattle.sheet.specs.Answer.{judgedOf, nextOf, headerIn, readHeader, HeaderFits, arcOf, sectionOf, begun, sheetOf, Held, Ends, behind, arcsBehind, marksBehind, answered, arcsBegun, marksBegun};
 use varint::Number;
 
 const NODES_END: u32 = 65;
@@ -21,6 +21,8 @@ const LIMIT_END: u32 = 1000001;
 const MINUTES_END: u32 = 65536;
 
 const MARKS_END: u32 = 3;
+
+const REQUIRED_MOST: usize = 8;
 
 // A number of the sheet that was judged: its value and the position after it, or the refusal.
 pub enum Judged {
@@ -151,7 +153,7 @@ fn arc_at(sheet: &[u8], at: usize, nodes: u32) -> ArcRead
 // Where a section ends, or the refusal.
 pub enum Section {
     Ended(usize),
-    Refused(u32),
+    Stopped(u32),
 }
 
 // Reads the arcs at the front of `section` and stores tail, head and minutes of each over the front of `arcs`.
@@ -165,7 +167,7 @@ fn arcs_in(section: &[u8], nodes: u32, count: usize, arcs: &mut [u32]) -> Sectio
     while j < count {
         match arc_at(section, at, nodes) {
             ArcRead::Not(why) => {
-                return Section::Refused(why);
+                return Section::Stopped(why);
             }
             ArcRead::Found(tail, head, minutes, next) => {
                 arcs[3 * j] = tail;
@@ -190,7 +192,7 @@ fn marks_in(section: &[u8], from: usize, count: usize, marks: &mut [u8]) -> Sect
     while j < count {
         match judged_at(section, at, MARKS_END, 11) {
             Judged::Wrong(why) => {
-                return Section::Refused(why);
+                return Section::Stopped(why);
             }
             Judged::Fine(mark, next) => {
                 marks[j] = mark as u8;
@@ -273,4 +275,61 @@ pub fn required_nodes(header: Header, arcs: &[u32], marks: &[u8], nodes: &mut [u
         p += 1;
     }
     count
+}
+
+// Whether at most eight nodes are required; the arcs' numbers and the marks stand in front.
+fn few_required(header: Header, arcs: &[u32], marks: &[u8]) -> bool
+    requires { ⌜ (header .nodes ≤ 64) × (header .arcs ≤ 512) × (1536 ≤ length (now arcs)) × (576 ≤ length (now marks)) ⌝ }
+    ensures { λ r. ⌜ r ≡ leb (length (required (sheetOf header (take (3 * header .arcs) (now (arcs .entry))) (take (header .nodes + header .arcs) (now (marks .entry)))))) 8 ⌝ }
+{
+    let numbers = 3 * header.arcs;
+    let items = header.nodes + header.arcs;
+    let mut nodes = [0usize; 64];
+    required_nodes(header, &arcs[..numbers], &marks[..items], &mut nodes) <= REQUIRED_MOST
+}
+
+// A sheet that was taken, by the five numbers in front of it, or the refusal, 3 to 13.
+pub enum SheetRead {
+    Taken(Header),
+    Refused(u32),
+}
+
+// Reads the arcs and the marks of a sheet whose header was read: `section` is the part of the sheet that starts at the fifth number's end.
+fn read_behind(header: Header, section: &[u8], arcs: &mut [u32], marks: &mut [u8]) -> SheetRead
+    requires { ⌜ (header .nodes ≤ 64) × (header .arcs ≤ 512) × (1536 ≤ length (now arcs)) × (576 ≤ length (now marks)) ⌝ }
+    ensures { λ r. ⌜ r ≡ answered (after (behind header (now (section .entry))) complete) ⌝ }
+    ensures { λ _. ⌜ now (arcs .exit) ≡ front (flat (arcsBehind header (now (section .entry)))) (now (arcs .entry)) ⌝ }
+    ensures { λ _. ⌜ now (marks .exit) ≡ front (marksBehind header (now (section .entry))) (now (marks .entry)) ⌝ }
+{
+    let nodes = header.nodes;
+    let count = header.arcs;
+    let end = match arcs_in(section, nodes as u32, count, arcs) {
+        Section::Ended(at) => at,
+        Section::Stopped(why) => return SheetRead::Refused(why),
+    };
+    let last = match marks_in(section, end, nodes + count, marks) {
+        Section::Ended(at) => at,
+        Section::Stopped(why) => return SheetRead::Refused(why),
+    };
+    if last < section.len() {
+        return SheetRead::Refused(12);
+    }
+    if few_required(header, arcs, marks) {
+        return SheetRead::Taken(header);
+    }
+    SheetRead::Refused(13)
+}
+
+// Reads a sheet. The numbers of its arcs, three each, are stored over the front of `arcs`, its marks over the front of `marks`; a refused sheet
+// leaves there what was read before the fault.
+pub fn read(sheet: &[u8], arcs: &mut [u32], marks: &mut [u8]) -> SheetRead
+    requires { ⌜ (1536 ≤ length (now arcs)) × (576 ≤ length (now marks)) ⌝ }
+    ensures { λ r. ⌜ r ≡ answered (taken (now (sheet .entry))) ⌝ }
+    ensures { λ _. ⌜ now (arcs .exit) ≡ front (flat (arcsBegun (now (sheet .entry)))) (now (arcs .entry)) ⌝ }
+    ensures { λ _. ⌜ now (marks .exit) ≡ front (marksBegun (now (sheet .entry))) (now (marks .entry)) ⌝ }
+{
+    match header_of(sheet) {
+        HeaderRead::Five(header, at) => read_behind(header, &sheet[at..], arcs, marks),
+        HeaderRead::Fault(why) => SheetRead::Refused(why),
+    }
 }
