@@ -20,26 +20,31 @@ use Rattle.sheet.specs.Reader.{readArc, readMark, readArcs, readMarks, c
 use Rattle.sheet.specs.Answer.{ahead, begun, headerOf, answered, behind, arcsBehind, marksBehind, readHeader, sheetOf, arcsBegun, marksBegun}
 use Rattle.sheet.proofs.HeaderLaws.{sheet-header}
 
--- k values were asked for, and so many were read
-one-longer :
-    {A : Type 0} {k : ℕ} (a : A) (r : Read (List A)) {xs : List A} {rest : List ℕ}
-    → ((ys : List A) (end : List ℕ) → got ys end ≡ r → length ys ≡ k) → got xs rest ≡ after r (λ ys bs. got (a ∷ ys) bs) → length xs ≡ suc k
+-- k values were asked for: so many were read, and these are the ones that `begun` names
+one-more :
+    {A : Type 0} {k : ℕ} (a : A) (r : Read (List A)) (zs : List A) {xs : List A} {rest : List ℕ}
+    → ((ys : List A) (end : List ℕ) → got ys end ≡ r → (length ys ≡ k) × (zs ≡ ys)) → got xs rest ≡ after r (λ ys bs. got (a ∷ ys) bs)
+    → (length xs ≡ suc k) × (a ∷ zs ≡ xs)
 unfolding after
-one-longer a (got ys end) {xs = xs} f e = let q : xs ≡ a ∷ ys = cc in ap length q ∙ ap suc (f ys end refl)
-one-longer a (refuse n) f e = absurd (let z : _≡_ {A = ℕ} 0 1 = cc in omega arith)
+one-more a (got ys end) zs {xs = xs} f e =
+    let q : xs ≡ a ∷ ys = cc in
+    (ap length q ∙ ap suc (f ys end refl .0), ap (λ ws. a ∷ ws) (f ys end refl .1) ∙ sym q)
+one-more a (refuse n) zs f e = absurd (let z : _≡_ {A = ℕ} 0 1 = cc in omega arith)
 
-first-longer :
-    {A : Type 0} {k : ℕ} (g : List ℕ → Read (List A)) (r : Read A) {xs : List A} {rest : List ℕ}
-    → ((bs : List ℕ) (ys : List A) (end : List ℕ) → got ys end ≡ g bs → length ys ≡ k)
-    → got xs rest ≡ after r (λ a bs. after (g bs) (λ ys end. got (a ∷ ys) end)) → length xs ≡ suc k
-unfolding after
-first-longer g (got a bs) f e = one-longer a (g bs) (f bs) e
-first-longer g (refuse n) f e = absurd (let z : _≡_ {A = ℕ} 0 1 = cc in omega arith)
+first-more :
+    {A : Type 0} {k : ℕ} (g : List ℕ → Read (List A)) (b : List ℕ → List A) (r : Read A) {xs : List A} {rest : List ℕ}
+    → ((bs : List ℕ) (ys : List A) (end : List ℕ) → got ys end ≡ g bs → (length ys ≡ k) × (b bs ≡ ys))
+    → got xs rest ≡ after r (λ a bs. after (g bs) (λ ys end. got (a ∷ ys) end)) → (length xs ≡ suc k) × (ahead r (λ a bs. a ∷ b bs) ≡ xs)
+unfolding after ahead
+first-more g b (got a bs) f e = one-more a (g bs) (b bs) (f bs) e
+first-more g b (refuse n) f e = absurd (let z : _≡_ {A = ℕ} 0 1 = cc in omega arith)
 
-several-length : {A : Type 0} (f : List ℕ → Read A) (k : ℕ) (bs : List ℕ) (xs : List A) (rest : List ℕ) → got xs rest ≡ several f k bs → length xs ≡ k
-unfolding several
-several-length f zero bs xs rest e = let q : xs ≡ [] = cc in ap length q
-several-length f (suc k) bs xs rest e = first-longer (several f k) (f bs) (several-length f k) e
+several-read :
+    {A : Type 0} (f : List ℕ → Read A) (k : ℕ) (bs : List ℕ) (xs : List A) (rest : List ℕ) → got xs rest ≡ several f k bs
+    → (length xs ≡ k) × (begun f k bs ≡ xs)
+unfolding several begun
+several-read f zero bs xs rest e = let q : xs ≡ [] = cc in (ap length q, sym q)
+several-read f (suc k) bs xs rest e = first-more (several f k) (begun f k) (f bs) (several-read f k) e
 
 module _ (h : Header) (bs : List ℕ) where
   pub arcs-refused :
@@ -55,7 +60,7 @@ module _ (h : Header) (bs : List ℕ) where
         record { graph = record { nodes = h .nodes; arcs = xs }; source = h .source; target = h .target; limit = h .limit; marks = ms }
 
     pub arc-count : length xs ≡ h .arcs
-    arc-count = several-length (readArc (h .nodes)) (h .arcs) bs xs rest qa
+    arc-count = several-read (readArc (h .nodes)) (h .arcs) bs xs rest qa .0
 
     pub marks-left : marksBehind h bs ≡ begun readMark (h .nodes + h .arcs) rest
     unfolding marksBehind ahead
@@ -67,7 +72,7 @@ module _ (h : Header) (bs : List ℕ) where
 
     module _ {ms end : List ℕ} (qm : got ms end ≡ several readMark (h .nodes + h .arcs) rest) where
       pub mark-count : length ms ≡ h .nodes + h .arcs
-      mark-count = several-length readMark (h .nodes + h .arcs) rest ms end qm
+      mark-count = several-read readMark (h .nodes + h .arcs) rest ms end qm .0
 
       all-read : after (behind h bs) complete ≡ complete (whole ms) end
       unfolding after readArcs readMarks
@@ -131,3 +136,46 @@ module _ (s old₁ old₂ : List ℕ) where
 -- the part of a list from a position to its end
 pub part-all : (s : List ℕ) (at : ℕ) → take (length s - at) (drop at s) ≡ drop at s
 part-all s at = take-all (length s - at) (drop at s) (rw length-drop (omega arith))
+
+complete-same : (T : Sheet) (end : List ℕ) {S : Sheet} {rest : List ℕ} → complete T end ≡ got S rest → T ≡ S
+unfolding complete
+complete-same T [] e = go (leb (length (required T)) 8) e
+  where
+    go : {S : Sheet} {rest : List ℕ} (b : Bool) → pick b (got T []) (refuse 13) ≡ got S rest → T ≡ S
+    go true q = cc
+    go false q = absurd (let z : _≡_ {A = ℕ} 0 1 = cc in omega arith)
+complete-same T (b ∷ bs) e = absurd (let z : _≡_ {A = ℕ} 0 1 = cc in omega arith)
+
+refused-taken : {r : Read Sheet} {e : ℕ} {S : Sheet} {rest : List ℕ} → Refused e ≡ answered r → r ≡ got S rest → ⊥
+unfolding answered
+refused-taken p q = let z : _≡_ {A = ℕ} 0 1 = cc (ap answered q) in omega arith
+
+-- a taken sheet's arcs and marks are those that a read leaves
+module _ {S : Sheet} {left : List ℕ} where
+  marks-taken :
+      (h : Header) (bs : List ℕ) {xs : List Arc} {rest : List ℕ} (qa : got xs rest ≡ several (readArc (h .nodes)) (h .arcs) bs)
+      (r : Read (List ℕ)) → r ≡ several readMark (h .nodes + h .arcs) rest → after (behind h bs) complete ≡ got S left
+      → (arcsBehind h bs ≡ S .graph .arcs) × (marksBehind h bs ≡ S .marks)
+  unfolding arcsBehind
+  marks-taken h bs {xs} {rest} qa (got ms end) p e =
+      let w : whole h bs qa ms ≡ S = complete-same (whole h bs qa ms) end (sym (all-read h bs qa p) ∙ e) in (
+        several-read (readArc (h .nodes)) (h .arcs) bs xs rest qa .1 ∙ ap (λ (T : Sheet). T .graph .arcs) w,
+        marks-left h bs qa ∙ several-read readMark (h .nodes + h .arcs) rest ms end p .1 ∙ ap (λ (T : Sheet). T .marks) w,
+      )
+  marks-taken h bs qa (refuse n) p e = absurd (refused-taken (marks-refused h bs qa p) e)
+
+  arcs-taken :
+      (h : Header) (bs : List ℕ) (r : Read (List Arc)) → r ≡ several (readArc (h .nodes)) (h .arcs) bs
+      → after (behind h bs) complete ≡ got S left → (arcsBehind h bs ≡ S .graph .arcs) × (marksBehind h bs ≡ S .marks)
+  arcs-taken h bs (got xs rest) p e = marks-taken h bs p (several readMark (h .nodes + h .arcs) rest) refl e
+  arcs-taken h bs (refuse n) p e = absurd (refused-taken (arcs-refused h bs p .0) e)
+
+  header-taken :
+      (s : List ℕ) (r : Read Header) → r ≡ readHeader s → taken s ≡ got S left → (arcsBegun s ≡ S .graph .arcs) × (marksBegun s ≡ S .marks)
+  unfolding after taken arcsBegun marksBegun ahead
+  header-taken s (got h bs) p e =
+      rw (← p) (arcs-taken h bs (several (readArc (h .nodes)) (h .arcs) bs) refl (rw (sheet-header s, ← p) at e))
+  header-taken s (refuse n) p e = absurd (refused-taken (header-refused s [] [] p .0) e)
+
+  pub taken-begun : (s : List ℕ) → taken s ≡ got S left → (arcsBegun s ≡ S .graph .arcs) × (marksBegun s ≡ S .marks)
+  taken-begun s e = header-taken s (readHeader s) refl e
