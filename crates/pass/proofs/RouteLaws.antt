@@ -12,7 +12,7 @@ use Rattle.lists.proofs.AscendLaws.{span-member}
 use Rattle.lists.proofs.MemberLaws.{member-cases, member-none, member-keep}
 use Rattle.lists.proofs.TestLaws.{true-or-false, or-true, and-true, false-of}
 use Rattle.lists.specs.Lists.{member}
-use Rattle.sheet.proofs.RequiredLaws.{Required, required-is, is-item, ends-mandatory, is-forbidden, is-mandatory}
+use Rattle.sheet.proofs.MarkLaws.{Required, required-is, is-item, ends-mandatory, is-forbidden, is-mandatory}
 use Rattle.sheet.specs.Sheet.{Sheet, isOpen, isMandatory, isForbidden, allItems, allArcs, endsMandatory, required}
 use Rattle.walks.proofs.Join.{meets-all, meets-at, ends-met, fit-clear, first-item, last-item}
 use Rattle.walks.proofs.LeastLaw.{fit-walk, walk-fit}

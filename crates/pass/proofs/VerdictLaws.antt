@@ -9,7 +9,7 @@ use Rattle.lists.proofs.AscendLaws.{keep-lowest}
 use Rattle.lists.proofs.MemberLaws.{member-head, member-none, keep-member, member-keep}
 use Rattle.lists.proofs.TestLaws.{and-true, true-and, false-of, not-true}
 use Rattle.lists.specs.Lists.{pick}
-use Rattle.sheet.proofs.RequiredLaws.{is-item, item-is, open-is}
+use Rattle.sheet.proofs.MarkLaws.{is-item, item-is, open-is}
 use Rattle.sheet.specs.Sheet.{Sheet, markOf, isOpen, isMandatory, isForbidden, allItems, required}
 use Rattle.walks.proofs.FitsLaws.{fits-mono, fits-none, none-fits, fits-some, some-fits}
 use Rattle.walks.proofs.GoalLaws.{Includes}

@@ -22,7 +22,7 @@ use Rattle.pass.proofs.VerdictLaws.{one, Stands, stands-all, fits-fewer, refuse
 use Rattle.pass.specs.Accepted.{accepted}
 use Rattle.pass.specs.Pass.{Refuses, EndsForbidden}
 use Rattle.pass.specs.Verdict.{reasonsFor, fitsSheet, slipFor, Verdict, verdict, isPruned, newMark, passSlip}
-use Rattle.sheet.proofs.RequiredLaws.{required-is, is-required, open-is, is-open, is-mandatory}
+use Rattle.sheet.proofs.MarkLaws.{required-is, is-required, open-is, is-open, is-mandatory}
 use Rattle.sheet.proofs.SheetLaws.{good-mark}
 use Rattle.sheet.specs.Sheet.{Sheet, isForbidden, required, isOpen, markOf}
 use Rattle.sheet.specs.Slip.{Slip}

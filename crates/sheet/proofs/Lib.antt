@@ -2,3 +2,8 @@ pub mod SheetLaws
 pub mod RequiredLaws
 pub mod SlipLaws
 pub mod ArcViewLaws
+pub mod ReadLaws
+pub mod SectionLaws
+pub mod HeaderLaws
+pub mod TakenLaws
+pub mod MarkLaws

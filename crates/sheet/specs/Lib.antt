@@ -1,5 +1,6 @@
 pub mod Sheet
 pub mod Reader
+pub mod Answer
 pub mod ArcView
 pub mod Slip
 pub mod Lent

@@ -23,7 +23,7 @@ use Rattle.pass.specs.Verdict.{verdict, Verdict, fitsSheet, isPruned, reasonsFo
 use Rattle.reason.proofs.AnswerLaws.{explained}
 use Rattle.reason.proofs.Demand3.{listed-forbidden, list-valid}
 use Rattle.reason.specs.Later.{Explains}
-use Rattle.sheet.proofs.RequiredLaws.{required-below}
+use Rattle.sheet.proofs.MarkLaws.{required-below}
 use Rattle.sheet.proofs.SlipLaws.{slip-read}
 use Rattle.sheet.specs.Sheet.{Sheet, isOpen, isMandatory, isForbidden, required}
 use Rattle.sheet.specs.Slip.{Slip, readSlip}

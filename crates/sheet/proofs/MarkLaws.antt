@@ -1,0 +1,112 @@
+-- Required nodes ascend, are nodes, and are mandatory or end a mandatory arc. Assumes nothing.
+use Prim.Native.Nat.{ℕ, _<_}
+use mathlib.Core.Path.{_≡_}
+use mathlib.Core.Logic.{_⊎_, inl, inr}
+use mathlib.Core.Bool.{true, not, _&&_, _||_, false≢true}
+use mathlib.Core.List.{List, [], _∷_}
+use native.Mathlib.Omega.{arith}
+use lib.Dec.{eqb}
+use borrow.Author.Tests.{eqb-true, eqb-false, eq-eqb, ne-eqb}
+use Rattle.lists.proofs.AscendLaws.{keep-ascends, span-member, member-span}
+use Rattle.lists.proofs.MemberLaws.{member-head, member-tail, keep-member, member-keep}
+use Rattle.lists.proofs.Pigeonhole.{Below, below-all}
+use Rattle.lists.proofs.TestLaws.{and-true, true-and, or-true, true-or, not-true}
+use Rattle.lists.specs.Lists.{member, ascends}
+use Rattle.walks.specs.Graph.{Graph, tailOf, headOf, arcItem, itemCount}
+use Rattle.sheet.specs.Sheet.{isForbidden, Sheet, markOf, isOpen, isMandatory, allItems, allNodes, allArcs, endsMandatory, isRequired, required}
+
+pub is-item : (G : Graph) (i : ℕ) → i < itemCount G → member i (allItems G) ≡ true
+unfolding allItems
+is-item G i h = member-span (itemCount G) 0 i (omega arith) (omega arith)
+
+pub item-is : (G : Graph) (i : ℕ) → member i (allItems G) ≡ true → i < itemCount G
+unfolding allItems
+item-is G i m = omega (arith, span-member (itemCount G) 0 i m .1)
+
+-- the mandatory arc that a node ends
+pub ends-mandatory : (S : Sheet) (p : ℕ) (ls : List ℕ) → endsMandatory S p ls ≡ true
+    → (l : ℕ) × (member l ls ≡ true) × (isMandatory S (arcItem (S .graph) l) ≡ true) × ((tailOf (S .graph) l ≡ p) ⊎ (headOf (S .graph) l ≡ p))
+unfolding endsMandatory
+ends-mandatory S p [] e = absurd (false≢true e)
+ends-mandatory S p (l ∷ ls) e =
+    go
+    (or-true (isMandatory S (arcItem (S .graph) l) && (eqb (tailOf (S .graph) l) p || eqb (headOf (S .graph) l) p)) (endsMandatory S p ls) e)
+    (ends-mandatory S p ls)
+  where
+    Found : List ℕ → Type 0
+    Found ks = (l : ℕ) × (member l ks ≡ true) × (isMandatory S (arcItem (S .graph) l) ≡ true) × ((tailOf (S .graph) l ≡ p) ⊎ (headOf (S .graph) l ≡ p))
+
+    end : (eqb (tailOf (S .graph) l) p ≡ true) ⊎ (eqb (headOf (S .graph) l) p ≡ true) → (tailOf (S .graph) l ≡ p) ⊎ (headOf (S .graph) l ≡ p)
+    end (inl q) = inl (eqb-true (tailOf (S .graph) l) p q)
+    end (inr q) = inr (eqb-true (headOf (S .graph) l) p q)
+
+    go : ((isMandatory S (arcItem (S .graph) l) && (eqb (tailOf (S .graph) l) p || eqb (headOf (S .graph) l) p)) ≡ true) ⊎ (endsMandatory S p ls ≡ true)
+        → (endsMandatory S p ls ≡ true → Found ls) → Found (l ∷ ls)
+    go (inl q) ih =
+        let s = and-true (isMandatory S (arcItem (S .graph) l)) (eqb (tailOf (S .graph) l) p || eqb (headOf (S .graph) l) p) q in
+        (l, member-head l ls, s .0, end (or-true (eqb (tailOf (S .graph) l) p) (eqb (headOf (S .graph) l) p) (s .1)))
+    go (inr q) ih = let f = ih q in (f .0, member-tail (f .0) l ls (f .1), f .2, f .3)
+
+-- required nodes ascend
+pub required-ascend : (S : Sheet) → ascends (required S) ≡ true
+unfolding required allNodes
+required-ascend S = keep-ascends (isRequired S) (S .graph .nodes) 0
+
+-- a required node
+pub record Required (S : Sheet) (p : ℕ) : Type 0 where
+  pub node : p < S .graph .nodes
+  pub between : (p ≡ S .source → ⊥) × (p ≡ S .target → ⊥)
+  pub demanded : (isMandatory S p ≡ true) ⊎ (endsMandatory S p (allArcs (S .graph)) ≡ true)
+
+pub required-is : (S : Sheet) (p : ℕ) → member p (required S) ≡ true → Required S p
+unfolding required isRequired allNodes
+required-is S p m =
+    let k = keep-member (isRequired S) p (allNodes (S .graph)) m in
+    let s = and-true (not (eqb p (S .source))) (not (eqb p (S .target)) && (isMandatory S p || endsMandatory S p (allArcs (S .graph)))) (k .1) in
+    let t = and-true (not (eqb p (S .target))) (isMandatory S p || endsMandatory S p (allArcs (S .graph))) (s .1) in
+    record {
+      node = omega (arith, span-member (S .graph .nodes) 0 p (k .0) .1);
+      between = (eqb-false p (S .source) (not-true (eqb p (S .source)) (s .0)), eqb-false p (S .target) (not-true (eqb p (S .target)) (t .0)));
+      demanded = or-true (isMandatory S p) (endsMandatory S p (allArcs (S .graph))) (t .1);
+    }
+
+pub is-required : (S : Sheet) (p : ℕ) → Required S p → member p (required S) ≡ true
+unfolding required isRequired allNodes
+is-required S p r =
+    member-keep (isRequired S) p (allNodes (S .graph)) (member-span (S .graph .nodes) 0 p (omega arith) (omega (arith, r .node)))
+    (true-and (apart (S .source) (r .between .0)) (true-and (apart (S .target) (r .between .1)) (either (r .demanded))))
+  where
+    apart : (q : ℕ) → (p ≡ q → ⊥) → not (eqb p q) ≡ true
+    apart q n = rw (ne-eqb p q n)
+
+    either : (isMandatory S p ≡ true) ⊎ (endsMandatory S p (allArcs (S .graph)) ≡ true) → (isMandatory S p || endsMandatory S p (allArcs (S .graph))) ≡ true
+    either (inl q) = rw q
+    either (inr q) = true-or (isMandatory S p) (endsMandatory S p (allArcs (S .graph))) q
+
+pub required-below : (S : Sheet) → Below (S .graph .nodes) (required S)
+required-below S = below-all (S .graph .nodes) (required S) (λ p m. required-is S p m .node)
+
+-- an item is open, mandatory or forbidden by its mark
+pub is-open : (S : Sheet) (i : ℕ) → markOf S i ≡ 0 → isOpen S i ≡ true
+unfolding isOpen
+is-open S i e = eq-eqb (markOf S i) 0 e
+
+pub open-is : (S : Sheet) (i : ℕ) → isOpen S i ≡ true → markOf S i ≡ 0
+unfolding isOpen
+open-is S i e = eqb-true (markOf S i) 0 e
+
+pub is-mandatory : (S : Sheet) (i : ℕ) → markOf S i ≡ 1 → isMandatory S i ≡ true
+unfolding isMandatory
+is-mandatory S i e = eq-eqb (markOf S i) 1 e
+
+pub mandatory-is : (S : Sheet) (i : ℕ) → isMandatory S i ≡ true → markOf S i ≡ 1
+unfolding isMandatory
+mandatory-is S i e = eqb-true (markOf S i) 1 e
+
+pub is-forbidden : (S : Sheet) (i : ℕ) → markOf S i ≡ 2 → isForbidden S i ≡ true
+unfolding isForbidden markOf
+is-forbidden S i e = eq-eqb (markOf S i) 2 e
+
+pub forbidden-is : (S : Sheet) (i : ℕ) → isForbidden S i ≡ true → markOf S i ≡ 2
+unfolding isForbidden markOf
+forbidden-is S i e = eqb-true (markOf S i) 2 e
