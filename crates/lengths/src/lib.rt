@@ -46,7 +46,7 @@ pub struct Query {
 }
 
 // The node where a walk comes to goal `g`.
-fn entry(nodes: usize, arcs: &[u32], g: usize) -> u32
+pub fn entry(nodes: usize, arcs: &[u32], g: usize) -> u32
     requires { ⌜ Joins nodes (now arcs) × (nodes ≤ 64) × (g < nodes + arcCount (now arcs)) ⌝ }
     ensures { λ r. ⌜ (r ≡ entryOf (graphOf nodes (now (arcs .entry))) g) × (r < nodes) ⌝ }
 {
@@ -57,7 +57,7 @@ fn entry(nodes: usize, arcs: &[u32], g: usize) -> u32
 }
 
 // The node where a walk leaves goal `g`.
-fn exit(nodes: usize, arcs: &[u32], g: usize) -> usize
+pub fn exit(nodes: usize, arcs: &[u32], g: usize) -> usize
     requires { ⌜ Joins nodes (now arcs) × (g < nodes + arcCount (now arcs)) ⌝ }
     ensures { λ r. ⌜ (r ≡ exitOf (graphOf nodes (now (arcs .entry))) g) × (r < nodes) ⌝ }
 {
@@ -68,7 +68,7 @@ fn exit(nodes: usize, arcs: &[u32], g: usize) -> usize
 }
 
 // The length of goal `g` itself.
-fn own(nodes: usize, arcs: &[u32], marks: &[u8], g: usize, cap: u32) -> u32
+pub fn own(nodes: usize, arcs: &[u32], marks: &[u8], g: usize, cap: u32) -> u32
     requires { ⌜ Proper (netOf nodes (now arcs) (now marks)) × (g < nodes + arcCount (now arcs)) ⌝ }
     ensures { λ r. ⌜ r ≡ held cap (ownOf (graphOf nodes (now (arcs .entry))) (closedIn (now (marks .entry))) g) ⌝ }
 {
@@ -86,7 +86,7 @@ fn own(nodes: usize, arcs: &[u32], marks: &[u8], g: usize, cap: u32) -> u32
 }
 
 // The sum of two lengths, MISSING above `cap`.
-fn sum(x: u32, y: u32, cap: u32) -> u32
+pub fn sum(x: u32, y: u32, cap: u32) -> u32
     requires { ⌜ cap < missing ⌝ }
     ensures { λ r. ⌜ ((p q : Least) → x ≡ held cap p → y ≡ held cap q → r ≡ held cap (plus p q)) ⌝ }
 {

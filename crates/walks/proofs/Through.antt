@@ -36,7 +36,7 @@ without-self g = rw (eq-eqb g g refl)
 
 module _ (G : Graph) (closed : ℕ → Bool) where
   -- through one item: to its entry, over it, and on from its exit
-  through-one : (g a b : ℕ) → Item G g
+  pub through-one : (g a b : ℕ) → Item G g
       → least G closed (g ∷ []) a b ≡ plus (plus (least G closed [] a (entryOf G g)) (ownOf G closed g)) (least G closed [] (exitOf G g) b)
   unfolding anyLast lastly
   through-one g a b i =
