@@ -1,9 +1,4 @@
 pub mod SheetLaws
-pub mod RequiredLaws
+pub mod MarkLaws
 pub mod SlipLaws
 pub mod ArcViewLaws
-pub mod ReadLaws
-pub mod SectionLaws
-pub mod HeaderLaws
-pub mod TakenLaws
-pub mod MarkLaws

@@ -1,6 +1,5 @@
 pub mod Sheet
 pub mod Reader
-pub mod Answer
 pub mod ArcView
 pub mod Slip
 pub mod Lent

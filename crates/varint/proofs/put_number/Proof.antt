@@ -1,5 +1,4 @@
 -- `put_number` writes what `writeNumber` writes. The invariant (`Writing`): the groups so far stand in front, and those of `rest` follow. Assumes nothing.
-use borrow.Author.Needs.{needs}
 use native.Mathlib.Omega.{arith}
 use lib.ListN.{length-set}
 use Rattle.varint.proofs.WriteLaws.{Writing, begun, room, kept, written, more}

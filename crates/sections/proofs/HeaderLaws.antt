@@ -1,0 +1,78 @@
+-- Laws of the five numbers in front of a sheet: each decides the next step, and `readSheet` goes on behind them. Assumes nothing.
+use Prim.Native.Nat.{ℕ, _≤_, _<_}
+use mathlib.Core.Path.{_≡_, refl, ap, sym, _∙_, fun-ext}
+use mathlib.Core.List.{List}
+use mathlib.Core.Bool.{Bool, true, false, not, _&&_}
+use lib.Dec.{leb, eqb, leb·suc-suc}
+use borrow.Author.Tests.{le-leb, lt-leb, eq-eqb, ne-eqb}
+use Rattle.varint.specs.Varint.{got, refuse, after, number, judged}
+use Rattle.sections.specs.Sections.{headerLimit, headerTarget, headerSource, headerArcs, readHeader}
+use Rattle.sections.proofs.ReadLaws.{under, number-and, number-most}
+
+and-swap : (a b : Bool) → (a && b) ≡ (b && a)
+and-swap true true = refl
+and-swap true false = refl
+and-swap false true = refl
+and-swap false false = refl
+
+nodes-number : (bs : List ℕ) → number 5 (λ x. leb 2 x && leb x 64) bs ≡ after (number 5 (under 65) bs) (judged 5 (λ x. leb 2 x))
+nodes-number bs =
+    ap (λ (f : ℕ → Bool). number 5 f bs) (fun-ext (λ x. and-swap (leb 2 x) (leb x 64) ∙ ap (λ (b : Bool). b && leb 2 x) (sym (leb·suc-suc x 64))))
+    ∙ number-and 5 (under 65) (λ x. leb 2 x) bs
+
+module _ (s : List ℕ) where
+  pub nodes-not : {e : ℕ} → refuse e ≡ number 5 (under 65) s → refuse e ≡ readHeader s
+  unfolding readHeader after
+  nodes-not e = rw (nodes-number s, ← e)
+
+  module _ {n : ℕ} {r₁ : List ℕ} (en : got n r₁ ≡ number 5 (under 65) s) where
+    pub nodes-low : n < 2 → refuse 5 ≡ readHeader s
+    unfolding readHeader after judged
+    nodes-low l = rw (nodes-number s, ← en) (simp (lt-leb 2 n l))
+
+    module _ (ln : 2 ≤ n) where
+      from-nodes : readHeader s ≡ headerArcs n r₁
+      unfolding readHeader after judged
+      from-nodes = rw (nodes-number s, ← en) (simp (le-leb 2 n ln))
+
+      pub arcs-not : {e : ℕ} → refuse e ≡ number 6 (under 513) r₁ → refuse e ≡ readHeader s
+      unfolding headerArcs after
+      arcs-not e = sym (from-nodes ∙ rw (number-most 6 512 r₁, ← e))
+
+      module _ {m : ℕ} {r₂ : List ℕ} (em : got m r₂ ≡ number 6 (under 513) r₁) where
+        from-arcs : readHeader s ≡ headerSource n m r₂
+        unfolding headerArcs after
+        from-arcs = from-nodes ∙ rw (number-most 6 512 r₁, ← em)
+
+        pub source-not : {e : ℕ} → refuse e ≡ number 7 (under n) r₂ → refuse e ≡ readHeader s
+        unfolding headerSource after
+        source-not e = sym (from-arcs ∙ rw (← e))
+
+        module _ {a : ℕ} {r₃ : List ℕ} (ea : got a r₃ ≡ number 7 (under n) r₂) where
+          from-source : readHeader s ≡ headerTarget n m a r₃
+          unfolding headerSource after
+          from-source = from-arcs ∙ rw (← ea)
+
+          pub target-not : {e : ℕ} → refuse e ≡ number 7 (under n) r₃ → refuse e ≡ readHeader s
+          unfolding headerTarget after
+          target-not e = sym (from-source ∙ rw (number-and 7 (under n) (λ x. not (eqb x a)) r₃, ← e))
+
+          module _ {b : ℕ} {r₄ : List ℕ} (eb : got b r₄ ≡ number 7 (under n) r₃) where
+            pub target-source : b ≡ a → refuse 7 ≡ readHeader s
+            unfolding headerTarget after judged
+            target-source q = sym (from-source ∙ rw (number-and 7 (under n) (λ x. not (eqb x a)) r₃, ← eb, eq-eqb _ _ q))
+
+            module _ (q : b ≡ a → ⊥) where
+              from-target : readHeader s ≡ headerLimit n m a b r₄
+              unfolding headerTarget after judged
+              from-target = from-source ∙ rw (number-and 7 (under n) (λ x. not (eqb x a)) r₃, ← eb, ne-eqb _ _ q)
+
+              pub limit-not : {e : ℕ} → refuse e ≡ number 8 (under 1000001) r₄ → refuse e ≡ readHeader s
+              unfolding headerLimit after
+              limit-not e = sym (from-target ∙ rw (number-most 8 1000000 r₄, ← e))
+
+              pub header-read :
+                  {k : ℕ} {r₅ : List ℕ} → got k r₅ ≡ number 8 (under 1000001) r₄
+                  → got (record { nodes = n; arcs = m; source = a; target = b; limit = k }) r₅ ≡ readHeader s
+              unfolding headerLimit after
+              header-read e = sym (from-target ∙ rw (number-most 8 1000000 r₄, ← e))

@@ -1,0 +1,80 @@
+-- What the answers of the readers of a sheet's parts stand for in document 01.
+use Prim.Native.Nat.{ℕ, zero, suc, _≤_, _<_}
+use mathlib.Core.Bool.{not, _&&_}
+use mathlib.Core.List.{List, [], _∷_}
+use lib.ListN.{length, drop}
+use lib.Dec.{eqb, ltb, leb}
+use Rattle.varint.specs.Varint.{Read, got, refuse, after, number}
+use Rattle.walks.specs.Graph.{Arc}
+use Rattle.sections.specs.declared.Judged.{Judged}
+use Rattle.sections.specs.declared.Judged.the-variants.{Fine, Wrong}
+use Rattle.sections.specs.declared.Header.{Header}
+use Rattle.sections.specs.declared.HeaderRead.{HeaderRead}
+use Rattle.sections.specs.declared.HeaderRead.the-variants.{Five, Fault}
+use Rattle.sections.specs.declared.ArcRead.{ArcRead}
+use Rattle.sections.specs.declared.ArcRead.the-variants.{Found, Not}
+use Rattle.sections.specs.declared.Section.{Section}
+use Rattle.sections.specs.declared.Section.the-variants.{Ended, Stopped}
+
+-- a number, an arc: the value with the bytes after it, or the refusal
+abbrev pub judgedOf : List ℕ → Judged → Read ℕ
+judgedOf s (Fine x next) = got x (drop next s)
+judgedOf s (Wrong e) = refuse e
+
+-- the position after the number, 0 where it was refused
+abbrev pub nextOf : Judged → ℕ
+nextOf (Fine x next) = next
+nextOf (Wrong e) = 0
+
+-- the five numbers in front, read in the same steps as by `readSheet` (`sheet-header`)
+unfoldable pub headerLimit : ℕ → ℕ → ℕ → ℕ → List ℕ → Read Header
+headerLimit n m s t bs =
+    after (number 8 (λ x. leb x 1000000) bs) (λ k rest. got (record { nodes = n; arcs = m; source = s; target = t; limit = k }) rest)
+
+unfoldable pub headerTarget : ℕ → ℕ → ℕ → List ℕ → Read Header
+headerTarget n m s bs = after (number 7 (λ x. ltb x n && not (eqb x s)) bs) (headerLimit n m s)
+
+unfoldable pub headerSource : ℕ → ℕ → List ℕ → Read Header
+headerSource n m bs = after (number 7 (λ x. ltb x n) bs) (headerTarget n m)
+
+unfoldable pub headerArcs : ℕ → List ℕ → Read Header
+headerArcs n bs = after (number 6 (λ x. leb x 512) bs) (headerSource n)
+
+unfoldable pub readHeader : List ℕ → Read Header
+readHeader bs = after (number 5 (λ x. leb 2 x && leb x 64) bs) headerArcs
+
+abbrev pub headerIn : List ℕ → HeaderRead → Read Header
+headerIn s (Five h next) = got h (drop next s)
+headerIn s (Fault e) = refuse e
+
+-- what a header that was read keeps to
+pub record Fits (s : List ℕ) (h : Header) (next : ℕ) : Type 0 where
+  pub some : 2 ≤ h .nodes
+  pub few : h .nodes ≤ 64
+  pub arcs : h .arcs ≤ 512
+  pub source : h .source < h .nodes
+  pub target : h .target < h .nodes
+  pub limit : h .limit ≤ 1000000
+  pub inside : next ≤ length s
+
+abbrev pub HeaderFits : List ℕ → HeaderRead → Type 0
+HeaderFits s (Five h next) = Fits s h next
+HeaderFits s (Fault e) = Unit {0}
+
+abbrev pub arcOf : List ℕ → ArcRead → Read Arc
+arcOf s (Found t h w next) = got (record { tail = t; head = h; weight = w }) (drop next s)
+arcOf s (Not e) = refuse e
+
+-- a section of k values of a kind: those that were read before the first fault, all k where there is none
+unfoldable pub ahead : {A B : Type 0} → Read A → (A → List ℕ → List B) → List B
+ahead (got a bs) f = f a bs
+ahead (refuse e) f = []
+
+unfoldable pub begun : {A : Type 0} → (List ℕ → Read A) → ℕ → List ℕ → List A
+begun f zero bs = []
+begun f (suc k) bs = ahead (f bs) (λ a rest. a ∷ begun f k rest)
+
+-- its values xs with the bytes after them, or the refusal
+abbrev pub sectionOf : {A : Type 0} → List ℕ → List A → Section → Read (List A)
+sectionOf s xs (Ended next) = got xs (drop next s)
+sectionOf s xs (Stopped e) = refuse e

@@ -1,0 +1,201 @@
+// The parts of a sheet (document 01, 'Sheet and slip'): its numbers, each judged as it is read, the five in front, the arcs and the marks.
+ghost use mathlib.Core.Path.{_≡_};
+ghost use Prim.Native.Nat.{_≤_};
+ghost use lib.ListN.{length, drop};
+ghost use lib.Dec.{ltb};
+ghost use Rattle.lists.specs.Lists.{front};
+ghost use Rattle.varint.specs.Varint.{number, several};
+ghost use Rattle.walks.specs.Flat.{flat};
+ghost use Rattle.sheet.specs.Reader.{readArc, readMark};
+ghost use Rattle.sections.specs.Sections.{judgedOf, nextOf, headerIn, readHeader, HeaderFits, arcOf, sectionOf, begun};
+use varint::Number;
+
+const NODES_END: u32 = 65;
+
+const ARCS_END: u32 = 513;
+
+const LIMIT_END: u32 = 1000001;
+
+const MINUTES_END: u32 = 65536;
+
+const MARKS_END: u32 = 3;
+
+// A number of the sheet that was judged: its value and the position after it, or the refusal.
+pub enum Judged {
+    Fine(u32, usize),
+    Wrong(u32),
+}
+
+// Reads the number at `at`, which is to be below `end`; otherwise the refusal is `why`.
+pub fn judged_at(sheet: &[u8], at: usize, end: u32, why: u32) -> Judged
+    ensures { λ r. ⌜ judgedOf (now (sheet .entry)) r ≡ number why (λ x. ltb x end) (drop at (now (sheet .entry))) ⌝ }
+    ensures { λ r. ⌜ nextOf r ≤ length (now (sheet .entry)) ⌝ }
+{
+    match varint::number_at(sheet, at) {
+        Number::Got(x, next) => {
+            if x < end {
+                Judged::Fine(x, next)
+            } else {
+                Judged::Wrong(why)
+            }
+        }
+        Number::Ends => Judged::Wrong(3),
+        Number::Overlong => Judged::Wrong(4),
+    }
+}
+
+// The five numbers in front of a sheet: n, m, start, finish and K of document 01.
+pub struct Header {
+    pub nodes: usize,
+    pub arcs: usize,
+    pub source: usize,
+    pub target: usize,
+    pub limit: u32,
+}
+
+// The five numbers and the position after them, or the refusal.
+pub enum HeaderRead {
+    Five(Header, usize),
+    Fault(u32),
+}
+
+// A number that was judged fine, and the position after it.
+pub struct Field {
+    pub value: u32,
+    pub next: usize,
+}
+
+// Reads the five numbers in front.
+pub fn header_of(sheet: &[u8]) -> HeaderRead
+    ensures { λ r. ⌜ headerIn (now (sheet .entry)) r ≡ readHeader (now (sheet .entry)) ⌝ }
+    ensures { λ r. ⌜ HeaderFits (now (sheet .entry)) r ⌝ }
+{
+    let nodes = match judged_at(sheet, 0, NODES_END, 5) {
+        Judged::Fine(x, next) => Field {
+            value: x,
+            next: next,
+        },
+        Judged::Wrong(why) => return HeaderRead::Fault(why),
+    };
+    if nodes.value < 2 {
+        return HeaderRead::Fault(5);
+    }
+    let arcs = match judged_at(sheet, nodes.next, ARCS_END, 6) {
+        Judged::Fine(x, next) => Field {
+            value: x,
+            next: next,
+        },
+        Judged::Wrong(why) => return HeaderRead::Fault(why),
+    };
+    let source = match judged_at(sheet, arcs.next, nodes.value, 7) {
+        Judged::Fine(x, next) => Field {
+            value: x,
+            next: next,
+        },
+        Judged::Wrong(why) => return HeaderRead::Fault(why),
+    };
+    let target = match judged_at(sheet, source.next, nodes.value, 7) {
+        Judged::Fine(x, next) => Field {
+            value: x,
+            next: next,
+        },
+        Judged::Wrong(why) => return HeaderRead::Fault(why),
+    };
+    if target.value == source.value {
+        return HeaderRead::Fault(7);
+    }
+    match judged_at(sheet, target.next, LIMIT_END, 8) {
+        Judged::Fine(x, next) => HeaderRead::Five(
+            Header {
+                nodes: nodes.value as usize,
+                arcs: arcs.value as usize,
+                source: source.value as usize,
+                target: target.value as usize,
+                limit: x,
+            },
+            next,
+        ),
+        Judged::Wrong(why) => HeaderRead::Fault(why),
+    }
+}
+
+// An arc of the sheet: tail, head, minutes and the position after it, or the refusal.
+pub enum ArcRead {
+    Found(u32, u32, u32, usize),
+    Not(u32),
+}
+
+// Reads the arc at `at` of a graph of `nodes` nodes.
+fn arc_at(sheet: &[u8], at: usize, nodes: u32) -> ArcRead
+    ensures { λ r. ⌜ arcOf (now (sheet .entry)) r ≡ readArc nodes (drop at (now (sheet .entry))) ⌝ }
+{
+    match judged_at(sheet, at, nodes, 9) {
+        Judged::Wrong(why) => ArcRead::Not(why),
+        Judged::Fine(tail, after_tail) => match judged_at(sheet, after_tail, nodes, 9) {
+            Judged::Wrong(why) => ArcRead::Not(why),
+            Judged::Fine(head, after_head) => {
+                if head == tail {
+                    return ArcRead::Not(9);
+                }
+                match judged_at(sheet, after_head, MINUTES_END, 10) {
+                    Judged::Wrong(why) => ArcRead::Not(why),
+                    Judged::Fine(minutes, next) => ArcRead::Found(tail, head, minutes, next),
+                }
+            }
+        },
+    }
+}
+
+// Where a section ends, or the refusal.
+pub enum Section {
+    Ended(usize),
+    Stopped(u32),
+}
+
+// Reads the arcs at the front of `section` and stores tail, head and minutes of each over the front of `arcs`.
+pub fn arcs_in(section: &[u8], nodes: u32, count: usize, arcs: &mut [u32]) -> Section
+    requires { ⌜ (count ≤ 512) × (1536 ≤ length (now arcs)) ⌝ }
+    ensures { λ r. ⌜ sectionOf (now (section .entry)) (begun (readArc nodes) count (now (section .entry))) r ≡ several (readArc nodes) count (now (section .entry)) ⌝ }
+    ensures { λ _. ⌜ now (arcs .exit) ≡ front (flat (begun (readArc nodes) count (now (section .entry)))) (now (arcs .entry)) ⌝ }
+{
+    let mut at: usize = 0;
+    let mut j: usize = 0;
+    while j < count {
+        match arc_at(section, at, nodes) {
+            ArcRead::Not(why) => {
+                return Section::Stopped(why);
+            }
+            ArcRead::Found(tail, head, minutes, next) => {
+                arcs[3 * j] = tail;
+                arcs[3 * j + 1] = head;
+                arcs[3 * j + 2] = minutes;
+                at = next;
+            }
+        }
+        j += 1;
+    }
+    Section::Ended(at)
+}
+
+// Reads the marks that stand from `from` on and stores each over the front of `marks`.
+pub fn marks_in(section: &[u8], from: usize, count: usize, marks: &mut [u8]) -> Section
+    requires { ⌜ count ≤ length (now marks) ⌝ }
+    ensures { λ r. ⌜ sectionOf (now (section .entry)) (begun readMark count (drop from (now (section .entry)))) r ≡ several readMark count (drop from (now (section .entry))) ⌝ }
+    ensures { λ _. ⌜ now (marks .exit) ≡ front (begun readMark count (drop from (now (section .entry)))) (now (marks .entry)) ⌝ }
+{
+    let mut at = from;
+    let mut j: usize = 0;
+    while j < count {
+        match judged_at(section, at, MARKS_END, 11) {
+            Judged::Wrong(why) => {
+                return Section::Stopped(why);
+            }
+            Judged::Fine(mark, next) => {
+                marks[j] = mark as u8;
+                at = next;
+            }
+        }
+        j += 1;
+    }
+    Section::Ended(at)
+}
