@@ -1,6 +1,6 @@
 -- Ascending lists: entries kept from a span ascend, and what ascends has no repeats. Assumes nothing.
 use Prim.Native.Nat.{ℕ, zero, suc, _+_, _≤_, _<_}
-use mathlib.Core.Path.{_≡_, refl, ap, _∙_}
+use mathlib.Core.Path.{_≡_, refl, sym, ap, _∙_}
 use mathlib.Core.Logic.{_⊎_, inl, inr}
 use mathlib.Core.Bool.{Bool, true, false}
 use mathlib.Core.List.{List, [], _∷_, map}
@@ -113,3 +113,23 @@ unfolding span
 map-span-at f zero a i h = absurd (omega arith)
 map-span-at f (suc k) a zero h = let e : a ≡ a + 0 = omega arith in ap f e
 map-span-at f (suc k) a (suc i) h = let e : suc a + i ≡ a + suc i = omega arith in map-span-at f k (suc a) i (omega arith) ∙ ap f e
+
+-- nothing is kept of a span where nothing passes the test
+pub keep-none : (f : ℕ → Bool) (k a : ℕ) → ((j : ℕ) → a ≤ j → j < a + k → f j ≡ false) → keep f (span k a) ≡ []
+unfolding keep span add
+keep-none f zero a h = refl
+keep-none f (suc k) a h = rw (h a (omega arith) (omega arith)) (keep-none f k (suc a) (λ j l g. h j (omega arith) (omega arith)))
+
+-- the first that passes the test is the first kept
+pub keep-first : (f : ℕ → Bool) (k a i d : ℕ) → a ≤ i → i < a + k → ((j : ℕ) → a ≤ j → j < i → f j ≡ false) → f i ≡ true → getD (keep f (span k a)) 0 d ≡ i
+unfolding keep span add
+keep-first f zero a i d l g n e = absurd (omega arith)
+keep-first f (suc k) a i d l g n e = go (ltb a i) refl (keep-first f k (suc a) i d)
+  where
+    go : (t : Bool) → ltb a i ≡ t
+        → (suc a ≤ i → i < suc a + k → ((j : ℕ) → suc a ≤ j → j < i → f j ≡ false) → f i ≡ true → getD (keep f (span k (suc a))) 0 d ≡ i)
+        → getD (add (f a) a (keep f (span k (suc a)))) 0 d ≡ i
+    go true q ih =
+        let h = ltb-true a i q in
+        rw (n a (omega arith) h) (ih (omega arith) (omega arith) (λ j p r. n j (omega arith) r) e)
+    go false q ih = let z : i ≡ a = omega (arith, ltb-false a i q) in let y : f a ≡ true = rw z at e in rw y (sym z)

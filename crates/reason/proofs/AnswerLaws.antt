@@ -9,11 +9,11 @@ use lib.Dec.{eqb, ltb}
 use borrow.Author.Tests.{eqb-true, eq-eqb, ltb-true, lt-ltb}
 use Rattle.lists.proofs.Pigeonhole.{Below}
 use Rattle.lists.proofs.TestLaws.{and-true}
-use Rattle.pass.proofs.AcceptedLaws.{accepted-good}
-use Rattle.pass.proofs.SlipOfPass.{slip-small}
-use Rattle.pass.specs.Accepted.{accepted}
-use Rattle.pass.specs.Pass.{finished, answerOf}
-use Rattle.pass.specs.Verdict.{verdict, isPruned, slipFor}
+use Rattle.verdict.proofs.AcceptedLaws.{accepted-good}
+use Rattle.verdict.proofs.SlipOfPass.{slip-small}
+use Rattle.verdict.specs.Accepted.{accepted}
+use Rattle.verdict.specs.Pass.{finished, answerOf}
+use Rattle.verdict.specs.Verdict.{verdict, isPruned, slipFor}
 use Rattle.sheet.proofs.SlipLaws.{Small, slip-back, slip-size}
 use Rattle.sheet.specs.Sheet.{Sheet}
 use Rattle.sheet.specs.Slip.{Slip, slipBytes, readSlip}

@@ -15,13 +15,13 @@ use Rattle.explain.specs.Reasons.{but}
 use Rattle.lists.proofs.MemberLaws.{member-head, member-cases, member-none}
 use Rattle.lists.proofs.TestLaws.{false-back, and-true, not-true, true-or-false, false-of}
 use Rattle.lists.specs.Lists.{member}
-use Rattle.pass.proofs.AcceptedLaws.{accepted-good}
-use Rattle.pass.proofs.Demand2.{verdict-in, marks-exact, refuses-is, is-refused}
-use Rattle.pass.proofs.SlipOfPass.{pass-finishes}
-use Rattle.pass.proofs.VerdictLaws.{one, Stands, stands-all, fits-fewer, refused-goals, VerdictIs, verdict-is, two, three, stands, pruned-mark, other-mark}
-use Rattle.pass.specs.Accepted.{accepted}
-use Rattle.pass.specs.Pass.{Refuses, EndsForbidden}
-use Rattle.pass.specs.Verdict.{reasonsFor, fitsSheet, slipFor, Verdict, verdict, isPruned, newMark, passSlip}
+use Rattle.verdict.proofs.AcceptedLaws.{accepted-good}
+use Rattle.verdict.proofs.Demand2.{verdict-in, marks-exact, refuses-is, is-refused}
+use Rattle.verdict.proofs.SlipOfPass.{pass-finishes}
+use Rattle.verdict.proofs.VerdictLaws.{one, Stands, stands-all, fits-fewer, refused-goals, VerdictIs, verdict-is, two, three, stands, pruned-mark, other-mark}
+use Rattle.verdict.specs.Accepted.{accepted}
+use Rattle.verdict.specs.Pass.{Refuses, EndsForbidden}
+use Rattle.verdict.specs.Verdict.{reasonsFor, fitsSheet, slipFor, Verdict, verdict, isPruned, newMark, passSlip}
 use Rattle.sheet.proofs.MarkLaws.{required-is, is-required, open-is, is-open, is-mandatory}
 use Rattle.sheet.proofs.SheetLaws.{good-mark}
 use Rattle.sheet.specs.Sheet.{Sheet, isForbidden, required, isOpen, markOf}

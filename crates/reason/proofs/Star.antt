@@ -5,9 +5,9 @@ use mathlib.Core.Path.{_≡_, refl}
 use mathlib.Core.List.{List, [], _∷_}
 use Rattle.explain.specs.Reasons.{greedy, reasons}
 use Rattle.lists.specs.Lists.{member, every, keep, add, span}
-use Rattle.pass.specs.Accepted.{overlong, shortEnough, accepted}
-use Rattle.pass.specs.Pass.{finished, answerOf, passOn}
-use Rattle.pass.specs.Verdict.{fitsSheet, unmet, verdictFrom, verdict, isPruned, isForced, newMark, newMarks, reasonsFor, slipFor, passSlip}
+use Rattle.verdict.specs.Accepted.{overlong, shortEnough, accepted}
+use Rattle.verdict.specs.Pass.{finished, answerOf, passOn}
+use Rattle.verdict.specs.Verdict.{fitsSheet, unmet, verdictFrom, verdict, isPruned, isForced, newMark, newMarks, reasonsFor, slipFor, passSlip}
 use Rattle.sheet.specs.Reader.{arcMinutes, arcHead, readArc, readMark, readMarks, readArcs, readLimit, readTarget, readSource, readArcCount, readSheet, complete, taken}
 use Rattle.sheet.specs.Sheet.{markOf, isOpen, isMandatory, isForbidden, allItems, allNodes, allArcs, endsMandatory, isRequired, required}
 use Rattle.sheet.specs.Slip.{slipNumbers, slipBytes, marksBytes}

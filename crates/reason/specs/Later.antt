@@ -10,8 +10,8 @@ use Rattle.varint.specs.Varint.{got}
 use Rattle.walks.specs.Graph.{Graph, tailOf, headOf, weightOf}
 use Rattle.sheet.specs.Sheet.{Sheet, isMandatory, isForbidden, required}
 use Rattle.sheet.specs.Slip.{Slip, readSlip}
-use Rattle.pass.specs.Accepted.{accepted}
-use Rattle.pass.specs.Pass.{finished}
+use Rattle.verdict.specs.Accepted.{accepted}
+use Rattle.verdict.specs.Pass.{finished}
 use Rattle.reason.specs.Reason.{reasonOn}
 
 -- The slip that reason writes for an item has these goals and reasons.

@@ -8,9 +8,9 @@ use Rattle.varint.specs.Varint.{Read, got, refuse, after}
 use Rattle.walks.specs.Graph.{itemCount}
 use Rattle.sheet.specs.Sheet.{Sheet}
 use Rattle.sheet.specs.Slip.{slipBytes}
-use Rattle.pass.specs.Accepted.{accepted}
-use Rattle.pass.specs.Verdict.{verdict, isPruned, slipFor}
-use Rattle.pass.specs.Pass.{Answer, answerOf, Outcome, outcome, lentEnough}
+use Rattle.verdict.specs.Accepted.{accepted}
+use Rattle.verdict.specs.Verdict.{verdict, isPruned, slipFor}
+use Rattle.verdict.specs.Pass.{Answer, answerOf, Outcome, outcome, lentEnough}
 
 -- the pass on this sheet prunes the item
 unfoldable pub prunes : Sheet → ℕ → Bool

@@ -13,13 +13,13 @@ use Rattle.lists.proofs.MemberLaws.{every-at, every-all, member-cases, member-n
 use Rattle.lists.proofs.Pigeonhole.{Below, below-append}
 use Rattle.lists.proofs.TestLaws.{and-true, true-and, not-true, true-or, true-or-false}
 use Rattle.lists.specs.Lists.{pick, member, every, ascends}
-use Rattle.pass.proofs.AcceptedLaws.{accepted-got}
-use Rattle.pass.proofs.Demand2.{refuses-is}
-use Rattle.pass.proofs.SlipOfPass.{Goals, verdict-goals, reasons-below, reasons-rise}
-use Rattle.pass.proofs.VerdictLaws.{VerdictIs, verdict-is, one, two, three, stands, refused-goals}
-use Rattle.pass.specs.Accepted.{accepted}
-use Rattle.pass.specs.Pass.{Refuses}
-use Rattle.pass.specs.Verdict.{verdict, Verdict, fitsSheet, isPruned, reasonsFor, slipFor}
+use Rattle.verdict.proofs.AcceptedLaws.{accepted-got}
+use Rattle.verdict.proofs.Demand2.{refuses-is}
+use Rattle.verdict.proofs.SlipOfPass.{Goals, verdict-goals, reasons-below, reasons-rise}
+use Rattle.verdict.proofs.VerdictLaws.{VerdictIs, verdict-is, one, two, three, stands, refused-goals}
+use Rattle.verdict.specs.Accepted.{accepted}
+use Rattle.verdict.specs.Pass.{Refuses}
+use Rattle.verdict.specs.Verdict.{verdict, Verdict, fitsSheet, isPruned, reasonsFor, slipFor}
 use Rattle.reason.proofs.AnswerLaws.{explained}
 use Rattle.reason.proofs.Demand3.{listed-forbidden, list-valid}
 use Rattle.reason.specs.Later.{Explains}

@@ -10,7 +10,7 @@ use Rattle.walks.specs.Graph.{itemCount, fits}
 use Rattle.sheet.specs.Sheet.{Sheet, isOpen, isMandatory, isForbidden, required}
 use Rattle.sheet.specs.Slip.{Slip, readSlip}
 use Rattle.sheet.specs.Lent.{workNumbers, zeroed, workAfter}
-use Rattle.pass.specs.Accepted.{accepted}
+use Rattle.verdict.specs.Accepted.{accepted}
 
 -- goal counts 0, 1, 1 to 8, 1 for first numbers 1, 2, 3, 4
 unfoldable pub goalCount : ℕ → ℕ → Bool

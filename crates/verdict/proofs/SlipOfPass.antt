@@ -19,10 +19,10 @@ use Rattle.sheet.specs.Sheet.{Sheet, required, allItems}
 use Rattle.sheet.specs.Slip.{Slip, slipNumbers, slipBytes, marksBytes}
 use Rattle.varint.specs.Varint.{got, after, writeNumber, writeNumbers, writeGroups}
 use Rattle.walks.specs.Graph.{itemCount}
-use Rattle.pass.proofs.VerdictLaws.{stands, VerdictIs, verdict-is, one, two, three, new-mark-low, verdict-low}
-use Rattle.pass.specs.Accepted.{accepted}
-use Rattle.pass.specs.Pass.{finished, answerOf, passOn, verdictIn, markIn}
-use Rattle.pass.specs.Verdict.{Verdict, verdict, newMark, newMarks, reasonsFor, slipFor, passSlip}
+use Rattle.verdict.proofs.VerdictLaws.{stands, VerdictIs, verdict-is, one, two, three, new-mark-low, verdict-low}
+use Rattle.verdict.specs.Accepted.{accepted}
+use Rattle.verdict.specs.Pass.{finished, answerOf, passOn, verdictIn, markIn}
+use Rattle.verdict.specs.Verdict.{Verdict, verdict, newMark, newMarks, reasonsFor, slipFor, passSlip}
 
 -- reasons are items, ascending, and so at most as many as there are items
 pub reasons-below : (S : Sheet) (goals : List ℕ) → Below (itemCount (S .graph)) (reasonsFor S goals)

@@ -15,7 +15,7 @@ use Rattle.walks.proofs.FitsLaws.{fits-mono, fits-none, none-fits, fits-some, s
 use Rattle.walks.proofs.GoalLaws.{Includes}
 use Rattle.walks.specs.Graph.{itemCount}
 use Rattle.walks.specs.Walk.{NoWalk, SomeWalk}
-use Rattle.pass.specs.Verdict.{fitsSheet, unmet, Verdict, verdictFrom, verdict, isPruned, isForced, newMark}
+use Rattle.verdict.specs.Verdict.{fitsSheet, unmet, Verdict, verdictFrom, verdict, isPruned, isForced, newMark}
 
 -- no walk from source to target, clear of the forbidden items, meets the goals within the limit; some walk does
 abbrev pub NoWalkOn : Sheet → List ℕ → Type 0

@@ -18,9 +18,9 @@ use Rattle.walks.proofs.Join.{meets-all, meets-at, ends-met, fit-clear, first-i
 use Rattle.walks.proofs.LeastLaw.{fit-walk, walk-fit}
 use Rattle.walks.specs.Graph.{itemCount, arcItem, tailOf, headOf, items}
 use Rattle.walks.specs.Walk.{Walk}
-use Rattle.pass.proofs.VerdictLaws.{Stands, some-sheet, pruned-mark, forced-mark, other-mark}
-use Rattle.pass.specs.Route.{Route, mandatory}
-use Rattle.pass.specs.Verdict.{fitsSheet, newMark, isForced}
+use Rattle.verdict.proofs.VerdictLaws.{Stands, some-sheet, pruned-mark, forced-mark, other-mark}
+use Rattle.verdict.specs.Route.{Route, mandatory}
+use Rattle.verdict.specs.Verdict.{fitsSheet, newMark, isForced}
 
 module _ (S : Sheet) (w : List ℕ) (R : Route S w) where
   met : List ℕ

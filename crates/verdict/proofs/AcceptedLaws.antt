@@ -12,7 +12,7 @@ use Rattle.varint.specs.Varint.{Read, got, refuse, after}
 use Rattle.walks.proofs.Bound.{least-bound}
 use Rattle.walks.specs.Graph.{least}
 use Rattle.walks.specs.Lengths.{Least, some, none}
-use Rattle.pass.specs.Accepted.{overlong, shortEnough, accepted}
+use Rattle.verdict.specs.Accepted.{overlong, shortEnough, accepted}
 
 -- the shortest walk that meets all required nodes fits 32 bits
 pub never-overlong : (bs : List ℕ) (S : Sheet) → Taken bs S → overlong (least (S .graph) (isForbidden S) (required S) (S .source) (S .target)) ≡ false

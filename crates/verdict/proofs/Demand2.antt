@@ -25,14 +25,14 @@ use Rattle.walks.proofs.Join.{meets-all, meets-at, first-item, last-item}
 use Rattle.walks.proofs.LeastLaw.{fit-walk, walk-fit}
 use Rattle.walks.specs.Graph.{itemCount, items, fit, meets}
 use Rattle.walks.specs.Walk.{Walk}
-use Rattle.pass.proofs.AcceptedLaws.{accepted-got, accepted-good}
-use Rattle.pass.proofs.RouteLaws.{route-stands, route-clear, route-meets}
-use Rattle.pass.proofs.SlipOfPass.{PassSlipIs, marks, blames, pass-slip-is, pass-finishes, pass-verdict-in, pass-mark-in}
-use Rattle.pass.proofs.VerdictLaws.{NoWalkOn, sheet-none, none-sheet, stands-all, all-stands, pruned-mark, VerdictIs, verdict-is, one, two, three, stands}
-use Rattle.pass.specs.Accepted.{accepted}
-use Rattle.pass.specs.Pass.{finished, passOn, verdictIn, markIn, Refuses}
-use Rattle.pass.specs.Route.{Route, demandedNodes}
-use Rattle.pass.specs.Verdict.{verdict, newMark, slipFor, passSlip, Verdict, newMarks}
+use Rattle.verdict.proofs.AcceptedLaws.{accepted-got, accepted-good}
+use Rattle.verdict.proofs.RouteLaws.{route-stands, route-clear, route-meets}
+use Rattle.verdict.proofs.SlipOfPass.{PassSlipIs, marks, blames, pass-slip-is, pass-finishes, pass-verdict-in, pass-mark-in}
+use Rattle.verdict.proofs.VerdictLaws.{NoWalkOn, sheet-none, none-sheet, stands-all, all-stands, pruned-mark, VerdictIs, verdict-is, one, two, three, stands}
+use Rattle.verdict.specs.Accepted.{accepted}
+use Rattle.verdict.specs.Pass.{finished, passOn, verdictIn, markIn, Refuses}
+use Rattle.verdict.specs.Route.{Route, demandedNodes}
+use Rattle.verdict.specs.Verdict.{verdict, newMark, slipFor, passSlip, Verdict, newMarks}
 
 -- the round is refused when a walk is missing for one mandatory mark, or for all mandatory nodes and ends of mandatory arcs together
 abbrev pub Refusal : Sheet → Type 0

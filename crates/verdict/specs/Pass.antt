@@ -8,8 +8,8 @@ use Rattle.lists.specs.Lists.{pick, front}
 use Rattle.varint.specs.Varint.{Read, got, refuse, after}
 use Rattle.sheet.specs.Slip.{Slip, readSlip}
 use Rattle.sheet.specs.Lent.{workNumbers, zeroed, workAfter}
-use Rattle.pass.specs.Accepted.{accepted}
-use Rattle.pass.specs.Verdict.{verdict, passSlip}
+use Rattle.verdict.specs.Accepted.{accepted}
+use Rattle.verdict.specs.Verdict.{verdict, passSlip}
 
 -- pass and reason finish with the bytes of a slip, or refuse with a number
 pub data Answer : Type 0 where

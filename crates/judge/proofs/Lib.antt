@@ -1,0 +1,4 @@
+pub mod FitLaws
+pub mod RowsLaws
+pub mod JudgeLaws
+pub mod MarkingLaws
