@@ -12,7 +12,7 @@ ghost use Rattle.sheet.specs.Reader.{complete, taken};
 ghost use Rattle.reader.specs.Answer.{sheetOf, Held, Ends, behind, arcsBehind, marksBehind, answered, arcsBegun, marksBegun};
 use sections::Header;
 use sections::HeaderRead;
-use sections::Section;
+use varint::Section;
 
 const REQUIRED_MOST: usize = 8;
 
