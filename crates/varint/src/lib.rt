@@ -75,12 +75,12 @@ pub fn put_number(out: &mut [u8], x: u32) -> usize
 }
 
 // Passes over the numbers that stand from `from` on.
-pub fn skip_numbers(bytes: &[u8], from: usize, count: u32) -> Section
+pub fn skip_numbers(bytes: &[u8], from: usize, count: usize) -> Section
     ensures { λ r. ⌜ sectionOf (now (bytes .entry)) (begun readNumber count (drop from (now (bytes .entry)))) r ≡ several readNumber count (drop from (now (bytes .entry))) ⌝ }
     ensures { λ r. ⌜ (from ≤ length (now (bytes .entry)) → sectionEnd r ≤ length (now (bytes .entry))) ⌝ }
 {
     let mut at = from;
-    let mut j: u32 = 0;
+    let mut j: usize = 0;
     while j < count {
         match number_at(bytes, at) {
             Number::Got(_, next) => {
