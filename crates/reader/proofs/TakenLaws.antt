@@ -1,5 +1,5 @@
 -- Laws of the whole sheet: what its parts say of it, and what a read leaves where it was taken. Assumes nothing.
-use Prim.Native.Nat.{ℕ, zero, suc, _+_, _-_, _*_, _≤_, _<_}
+use Prim.Native.Nat.{ℕ, _+_, _-_, _*_, _≤_, _<_}
 use mathlib.Core.Path.{_≡_, refl, ap, sym, _∙_}
 use mathlib.Core.List.{List, [], _∷_}
 use native.Mathlib.Omega.{arith}
@@ -17,7 +17,9 @@ use Rattle.reader.specs.declared.SheetRead.{SheetRead}
 use Rattle.reader.specs.declared.SheetRead.the-variants.{Taken, Refused}
 use Rattle.sheet.specs.Sheet.{Sheet, required}
 use Rattle.sheet.specs.Reader.{readArc, readMark, readArcs, readMarks, complete, readLimit, readTarget, readSource, readArcCount, readSheet, taken}
-use Rattle.sections.specs.Sections.{ahead, begun, headerLimit, headerTarget, headerSource, headerArcs, readHeader}
+use Rattle.varint.specs.Begun.{ahead, begun}
+use Rattle.varint.proofs.SeveralLaws.{several-read}
+use Rattle.sections.specs.Sections.{headerLimit, headerTarget, headerSource, headerArcs, readHeader}
 use Rattle.reader.specs.Answer.{headerOf, answered, behind, arcsBehind, marksBehind, sheetOf, arcsBegun, marksBegun}
 
 -- `readSheet` reads its header first
@@ -29,32 +31,6 @@ after-after (refuse e) f g = refl
 pub sheet-header : (bs : List ℕ) → readSheet bs ≡ after (readHeader bs) behind
 unfolding after readSheet readArcCount readSource readTarget readLimit readHeader headerArcs headerSource headerTarget headerLimit
 sheet-header bs = simp after-after
-
--- k values were asked for: so many were read, and these are the ones that `begun` names
-one-more :
-    {A : Type 0} {k : ℕ} (a : A) (r : Read (List A)) (zs : List A) {xs : List A} {rest : List ℕ}
-    → ((ys : List A) (end : List ℕ) → got ys end ≡ r → (length ys ≡ k) × (zs ≡ ys)) → got xs rest ≡ after r (λ ys bs. got (a ∷ ys) bs)
-    → (length xs ≡ suc k) × (a ∷ zs ≡ xs)
-unfolding after
-one-more a (got ys end) zs {xs = xs} f e =
-    let q : xs ≡ a ∷ ys = cc in
-    (ap length q ∙ ap suc (f ys end refl .0), ap (λ ws. a ∷ ws) (f ys end refl .1) ∙ sym q)
-one-more a (refuse n) zs f e = absurd (let z : _≡_ {A = ℕ} 0 1 = cc in omega arith)
-
-first-more :
-    {A : Type 0} {k : ℕ} (g : List ℕ → Read (List A)) (b : List ℕ → List A) (r : Read A) {xs : List A} {rest : List ℕ}
-    → ((bs : List ℕ) (ys : List A) (end : List ℕ) → got ys end ≡ g bs → (length ys ≡ k) × (b bs ≡ ys))
-    → got xs rest ≡ after r (λ a bs. after (g bs) (λ ys end. got (a ∷ ys) end)) → (length xs ≡ suc k) × (ahead r (λ a bs. a ∷ b bs) ≡ xs)
-unfolding after ahead
-first-more g b (got a bs) f e = one-more a (g bs) (b bs) (f bs) e
-first-more g b (refuse n) f e = absurd (let z : _≡_ {A = ℕ} 0 1 = cc in omega arith)
-
-several-read :
-    {A : Type 0} (f : List ℕ → Read A) (k : ℕ) (bs : List ℕ) (xs : List A) (rest : List ℕ) → got xs rest ≡ several f k bs
-    → (length xs ≡ k) × (begun f k bs ≡ xs)
-unfolding several begun
-several-read f zero bs xs rest e = let q : xs ≡ [] = cc in (ap length q, sym q)
-several-read f (suc k) bs xs rest e = first-more (several f k) (begun f k) (f bs) (several-read f k) e
 
 module _ (h : Header) (bs : List ℕ) where
   pub arcs-refused :

@@ -10,7 +10,8 @@ use Rattle.walks.specs.Flat.{graphOf}
 use Rattle.sheet.specs.Sheet.{Sheet, endsMandatory, allArcs}
 use Rattle.sheet.specs.Reader.{readArc, readMark, readArcs}
 use Rattle.sections.specs.declared.Header.{Header}
-use Rattle.sections.specs.Sections.{readHeader, ahead, begun}
+use Rattle.varint.specs.Begun.{ahead, begun}
+use Rattle.sections.specs.Sections.{readHeader}
 use Rattle.reader.specs.declared.SheetRead.{SheetRead}
 use Rattle.reader.specs.declared.SheetRead.the-variants.{Taken, Refused}
 

@@ -2,7 +2,7 @@
 ghost use mathlib.Core.Path.{_≡_};
 ghost use mathlib.Core.Bool.{not, _&&_, _||_};
 ghost use Prim.Native.Nat.{_+_, _*_, _≤_};
-ghost use lib.ListN.{length, take, set};
+ghost use lib.ListN.{length, take, drop, set};
 ghost use lib.Dec.{leb, eqb};
 ghost use Rattle.lists.specs.Lists.{front, pick};
 ghost use Rattle.varint.specs.Varint.{after};
@@ -10,9 +10,10 @@ ghost use Rattle.walks.specs.Flat.{flat};
 ghost use Rattle.sheet.specs.Sheet.{required};
 ghost use Rattle.sheet.specs.Reader.{complete, taken};
 ghost use Rattle.reader.specs.Answer.{sheetOf, Held, Ends, behind, arcsBehind, marksBehind, answered, arcsBegun, marksBegun};
+ghost use Rattle.sheet.specs.ArcView.{past, arcView};
 use sections::Header;
 use sections::HeaderRead;
-use sections::Section;
+use varint::Section;
 
 const REQUIRED_MOST: usize = 8;
 
@@ -144,4 +145,34 @@ pub fn read(sheet: &[u8], arcs: &mut [u32], marks: &mut [u8]) -> SheetRead
         HeaderRead::Five(header, at) => read_behind(header, &sheet[at..], arcs, marks),
         HeaderRead::Fault(why) => SheetRead::Refused(why),
     }
+}
+
+// The position after `count` numbers that stand from `from` on; the end of the sheet where they cannot be read.
+fn past_numbers(sheet: &[u8], from: usize, count: usize) -> usize
+    requires { ⌜ from ≤ length (now sheet) ⌝ }
+    ensures { λ r. ⌜ (drop r (now (sheet .entry)) ≡ past count (drop from (now (sheet .entry)))) × (r ≤ length (now (sheet .entry))) ⌝ }
+{
+    match varint::skip_numbers(sheet, from, count) {
+        Section::Ended(next) => next,
+        Section::Stopped(_) => sheet.len(),
+    }
+}
+
+// The part of the sheet that holds the three numbers of the arc; empty where the sheet is refused or has no such arc (document 01: leg view).
+pub fn arc_view(sheet: &[u8], arc: u32) -> &[u8]
+    ensures { λ r. ⌜ now r ≡ arcView (now (sheet .entry)) arc ⌝ }
+{
+    let mut arcs = [0u32; 1536];
+    let mut marks = [0u8; 576];
+    let header = match read(sheet, &mut arcs, &mut marks) {
+        SheetRead::Taken(header) => header,
+        SheetRead::Refused(_) => return &sheet[0..0],
+    };
+    let l = arc as usize;
+    if header.arcs <= l {
+        return &sheet[0..0];
+    }
+    let from = past_numbers(sheet, 0, 5 + 3 * l);
+    let to = past_numbers(sheet, from, 3);
+    &sheet[from..to]
 }

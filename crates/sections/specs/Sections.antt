@@ -1,7 +1,7 @@
 -- What the answers of the readers of a sheet's parts stand for in document 01.
-use Prim.Native.Nat.{ℕ, zero, suc, _≤_, _<_}
+use Prim.Native.Nat.{ℕ, _≤_, _<_}
 use mathlib.Core.Bool.{not, _&&_}
-use mathlib.Core.List.{List, [], _∷_}
+use mathlib.Core.List.{List}
 use lib.ListN.{length, drop}
 use lib.Dec.{eqb, ltb, leb}
 use Rattle.varint.specs.Varint.{Read, got, refuse, after, number}
@@ -13,8 +13,6 @@ use Rattle.sections.specs.declared.HeaderRead.{HeaderRead}
 use Rattle.sections.specs.declared.HeaderRead.the-variants.{Five, Fault}
 use Rattle.sections.specs.declared.ArcRead.{ArcRead}
 use Rattle.sections.specs.declared.ArcRead.the-variants.{Found, Not}
-use Rattle.sections.specs.declared.Section.{Section}
-use Rattle.sections.specs.declared.Section.the-variants.{Ended, Stopped}
 
 -- a number, an arc: the value with the bytes after it, or the refusal
 abbrev pub judgedOf : List ℕ → Judged → Read ℕ
@@ -64,17 +62,3 @@ HeaderFits s (Fault e) = Unit {0}
 abbrev pub arcOf : List ℕ → ArcRead → Read Arc
 arcOf s (Found t h w next) = got (record { tail = t; head = h; weight = w }) (drop next s)
 arcOf s (Not e) = refuse e
-
--- a section of k values of a kind: those that were read before the first fault, all k where there is none
-unfoldable pub ahead : {A B : Type 0} → Read A → (A → List ℕ → List B) → List B
-ahead (got a bs) f = f a bs
-ahead (refuse e) f = []
-
-unfoldable pub begun : {A : Type 0} → (List ℕ → Read A) → ℕ → List ℕ → List A
-begun f zero bs = []
-begun f (suc k) bs = ahead (f bs) (λ a rest. a ∷ begun f k rest)
-
--- its values xs with the bytes after them, or the refusal
-abbrev pub sectionOf : {A : Type 0} → List ℕ → List A → Section → Read (List A)
-sectionOf s xs (Ended next) = got xs (drop next s)
-sectionOf s xs (Stopped e) = refuse e

@@ -7,8 +7,11 @@ ghost use Rattle.lists.specs.Lists.{front};
 ghost use Rattle.varint.specs.Varint.{number, several};
 ghost use Rattle.walks.specs.Flat.{flat};
 ghost use Rattle.sheet.specs.Reader.{readArc, readMark};
-ghost use Rattle.sections.specs.Sections.{judgedOf, nextOf, headerIn, readHeader, HeaderFits, arcOf, sectionOf, begun};
+ghost use Rattle.varint.specs.Answer.{sectionOf};
+ghost use Rattle.varint.specs.Begun.{begun};
+ghost use Rattle.sections.specs.Sections.{judgedOf, nextOf, headerIn, readHeader, HeaderFits, arcOf};
 use varint::Number;
+use varint::Section;
 
 const NODES_END: u32 = 65;
 
@@ -144,12 +147,6 @@ fn arc_at(sheet: &[u8], at: usize, nodes: u32) -> ArcRead
             }
         },
     }
-}
-
-// Where a section ends, or the refusal.
-pub enum Section {
-    Ended(usize),
-    Stopped(u32),
 }
 
 // Reads the arcs at the front of `section` and stores tail, head and minutes of each over the front of `arcs`.

@@ -7,7 +7,7 @@ use lib.ListN.{drop}
 use Rattle.sheet.specs.Reader.{readMark}
 use Rattle.sections.specs.Sections.{judgedOf}
 use Rattle.sections.proofs.ReadLaws.{number-below, mark-number}
-use Rattle.sections.proofs.SectionLaws.{Filling, start, more, stops, done, plain, marks-kept, mark-stored}
+use Rattle.varint.proofs.SeveralLaws.{Filling, start, more, stops, done, plain, plain-kept, plain-stored}
 use Rattle.sections.proofs.marks_in.Statement.{statement}
 use Rattle.sections.proofs.marks_in.Tie as tie
 
@@ -27,7 +27,7 @@ enum-known-why : tie.Need-enum-known-why Inv-loop μ-loop
 enum-known-why c = search needs
 
 same-length : tie.Need-same-length Inv-loop μ-loop
-same-length c = marks-kept (c .before .before .before .before .before .loop .inv) (omega arith)
+same-length c = plain-kept (c .before .before .before .before .before .loop .inv) (omega arith)
 
 returns : tie.Need-returns Inv-loop μ-loop
 returns c = stops (c .before .before .before .before .before .loop .inv) (c .before .before .before .before .loop-test .taken) (ap (judgedOf _) (sym (c .before .why .given .1)) ∙ c .before .before .before .judged-at .ensures .0 ∙ sym (mark-number _))
@@ -39,7 +39,7 @@ cast-marks : tie.Need-cast-marks Inv-loop μ-loop
 cast-marks c = omega (arith, number-below _ _ _ (ap (judgedOf _) (sym (c .before .mark .given .1)) ∙ c .before .before .before .judged-at .ensures .0))
 
 slice-write-marks : tie.Need-slice-write-marks Inv-loop μ-loop
-slice-write-marks c = omega (arith, marks-kept (c .before .before .before .before .before .loop .inv) (omega arith))
+slice-write-marks c = omega (arith, plain-kept (c .before .before .before .before .before .loop .inv) (omega arith))
 
 add-j : tie.Need-add-j Inv-loop μ-loop
 add-j c = omega arith
@@ -51,10 +51,10 @@ loop-again : tie.Need-loop-again Inv-loop μ-loop
 loop-again c =
     more (c .before .before .before .before .before .loop .inv) (c .before .before .before .before .loop-test .taken)
     (ap (judgedOf _) (sym (c .before .mark .given .1)) ∙ c .before .before .before .judged-at .ensures .0 ∙ sym (mark-number _))
-    (mark-stored (c .before .before .before .before .before .loop .inv) (omega arith) _ (c .before .before .before .before .loop-test .taken))
+    (plain-stored (c .before .before .before .before .before .loop .inv) (omega arith) _ (c .before .before .before .before .loop-test .taken))
 
 same-length-2 : tie.Need-same-length-2 Inv-loop μ-loop
-same-length-2 c = marks-kept (c .before .loop .inv) (omega arith)
+same-length-2 c = plain-kept (c .before .loop .inv) (omega arith)
 
 returns-2 : tie.Need-returns-2 Inv-loop μ-loop
 returns-2 c = done (c .before .loop .inv) (c .loop-test .left)
