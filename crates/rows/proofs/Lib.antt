@@ -5,3 +5,4 @@ pub mod RowLaws
 pub mod PackLaws
 pub mod TurnLaws
 pub mod WorkLaws
+pub mod ChainLaws
