@@ -72,14 +72,6 @@ Keeps cap xs d e = (N : Net) (s : ℕ) → Proper N → Packed N xs → Good N c
 abbrev pub Started : List ℕ → ℕ → List ℕ → List ℕ → Type 0
 Started marks s d e = ((getD marks s 0 ≡ 2 → ⊥) × (e ≡ set d s 0)) ⊎ ((getD marks s 0 ≡ 2) × (e ≡ d))
 
--- Arcs chained by their tails, counted from 1: number u is the last arc that leaves node u, number 64 + i one before arc i, and 0 ends a chain.
--- The order in which arcs are tried changes no result, so nothing more is asked of the chains than that they end.
-pub record Chained (m : ℕ) (chains : List ℕ) : Type 0 where
-  pub few : m ≤ 512
-  pub long : length chains ≡ 576
-  pub lasts : (u : ℕ) → u < 64 → getD chains u 0 ≤ m
-  pub befores : (i : ℕ) → i < m → getD chains (64 + i) 0 ≤ i
-
 -- s is a node, and the arcs of the list are the open ones of a graph with these marks
 pub record StartOf (N : Net) (xs marks : List ℕ) (s : ℕ) : Type 0 where
   pub proper : Proper N

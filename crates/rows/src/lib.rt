@@ -1,24 +1,15 @@
 ghost use mathlib.Core.Path.{_≡_};
-ghost use Prim.Native.Nat.{ℕ, _+_, _*_, _≤_, _<_};
-ghost use lib.ListN.{length, replicate, take, drop};
+ghost use Prim.Native.Nat.{_+_, _*_, _≤_, _<_};
+ghost use lib.ListN.{length, take, drop};
 ghost use Rattle.rows.specs.Held.{missing};
-ghost use Rattle.rows.specs.Net.{Net, netOf, count, arcCount, tailIn, headIn, weightIn, Proper, Joins, PackedTo, Packed, TurnedTo};
-ghost use Rattle.rows.specs.Rows.{RowIs, RowTo, Sound, Relaxed, ArcTried, Swept, Round, Settled, Keeps, Started, Chained, StartOf, StartsOf, StartsFit, RowsAre, RowsSound};
-
-// What a row holds where there is no way of at most the cap.
-pub const MISSING: u32 = 0xFFFF_FFFF;
+ghost use Rattle.rows.specs.Net.{Net, netOf, arcCount, Proper, Joins, PackedTo, Packed};
+ghost use Rattle.rows.specs.Rows.{RowIs, Sound, Relaxed, ArcTried, Swept, Round, Settled, Keeps, Started, StartOf, StartsOf, StartsFit, RowsAre, RowsSound};
 
 // The mark of a forbidden item.
 const FORBIDDEN: u8 = 2;
 
-// The most numbers that the arcs take, three each.
-const ARC_NUMBERS: usize = 1536;
-
 // The numbers of a row, one for each node.
 const ROW_LENGTH: usize = 64;
-
-// The numbers of the arcs chained by their tails, one for each node and one for each arc.
-const CHAIN_NUMBERS: usize = 576;
 
 // Puts arc `i` behind the `c` arcs that are packed, where it and its head are open.
 fn pack_arc(
@@ -62,17 +53,6 @@ pub fn pack(nodes: usize, arcs: &[u32], marks: &[u8], packed: &mut [u32]) -> usi
     c * 3
 }
 
-// Stores `v` in each entry.
-fn fill(row: &mut [u32], v: u32)
-    ensures { λ _. ⌜ now (row .exit) ≡ replicate (length (now (row .entry))) v ⌝ }
-{
-    let mut i = 0;
-    while i < row.len() {
-        row[i] = v;
-        i += 1;
-    }
-}
-
 // Cuts the entry at `to` where the way over `from` is shorter and at most `cap`.
 pub fn relax(row: &mut [u32], from: usize, to: usize, weight: u32, cap: u32) -> bool
     requires { ⌜ (from < length (now row)) × (to < length (now row)) ⌝ }
@@ -94,7 +74,7 @@ pub fn relax(row: &mut [u32], from: usize, to: usize, weight: u32, cap: u32) -> 
 }
 
 // Tries arc `i` of the open arcs.
-fn try_arc(arcs: &[u32], row: &mut [u32], i: usize, cap: u32) -> bool
+pub fn try_arc(arcs: &[u32], row: &mut [u32], i: usize, cap: u32) -> bool
     requires { ⌜ Joins 64 (now arcs) × (length (now row) ≡ 64) × (i < arcCount (now arcs)) ⌝ }
     ensures { λ r. ⌜ ArcTried cap (now (arcs .entry)) (now (row .entry)) i (now (row .exit)) r ⌝ }
 {
@@ -152,7 +132,7 @@ fn sweep(arcs: &[u32], row: &mut [u32], cap: u32) -> bool
 }
 
 // Tries the arcs until none can cut an entry.
-fn settle(arcs: &[u32], row: &mut [u32], cap: u32)
+pub fn settle(arcs: &[u32], row: &mut [u32], cap: u32)
     requires { ⌜ Joins 64 (now arcs) × (length (now row) ≡ 64) ⌝ }
     ensures { λ _. ⌜ Keeps cap (now (arcs .entry)) (now (row .entry)) (now (row .exit)) ⌝ }
     ensures { λ _. ⌜ Settled cap (now (arcs .entry)) 0 (arcCount (now (arcs .entry))) (now (row .exit)) ⌝ }
@@ -160,84 +140,8 @@ fn settle(arcs: &[u32], row: &mut [u32], cap: u32)
     while sweep(arcs, row, cap) {}
 }
 
-// The arcs chained by their tails.
-fn chained(arcs: &[u32]) -> [u32; CHAIN_NUMBERS]
-    requires { ⌜ Joins 64 (now arcs) × (length (now arcs) ≤ 1536) ⌝ }
-    ensures { λ r. ⌜ Chained (arcCount (now (arcs .entry))) r ⌝ }
-{
-    let mut chains = [0u32; CHAIN_NUMBERS];
-    let m = arcs.len() / 3;
-    let mut i = 0;
-    while i < m {
-        let tail = arcs[i * 3] as usize;
-        chains[ROW_LENGTH + i] = chains[tail];
-        chains[tail] = i as u32 + 1;
-        i += 1;
-    }
-    chains
-}
-
-// Tries arc `i`. Its head is added to the nodes whose arcs are to be tried where its entry is cut.
-fn try_adding(arcs: &[u32], row: &mut [u32], i: usize, nodes: u64, cap: u32) -> u64
-    requires { ⌜ Joins 64 (now arcs) × (length (now row) ≡ 64) × (i < arcCount (now arcs)) ⌝ }
-    ensures { λ _. ⌜ Keeps cap (now (arcs .entry)) (now (row .entry)) (now (row .exit)) ⌝ }
-{
-    if try_arc(arcs, row, i, cap) {
-        return nodes | 1u64 << arcs[i * 3 + 1];
-    }
-    nodes
-}
-
-// Tries the arcs that leave node `u`, if it is one of the nodes whose arcs are to be tried.
-fn spread(arcs: &[u32], chains: &[u32], row: &mut [u32], u: usize, nodes: u64, cap: u32) -> u64
-    requires { ⌜ Joins 64 (now arcs) × Chained (arcCount (now arcs)) (now chains) × (length (now row) ≡ 64) × (u < 64) ⌝ }
-    ensures { λ _. ⌜ Keeps cap (now (arcs .entry)) (now (row .entry)) (now (row .exit)) ⌝ }
-{
-    if (nodes >> u) % 2 == 0 {
-        return nodes;
-    }
-    let mut left = nodes ^ 1u64 << u;
-    let mut k = chains[u];
-    while k > 0 {
-        let i = k as usize - 1;
-        left = try_adding(arcs, row, i, left, cap);
-        k = chains[ROW_LENGTH + i];
-    }
-    left
-}
-
-// The same for each node in turn.
-fn spread_all(arcs: &[u32], chains: &[u32], row: &mut [u32], nodes: u64, cap: u32) -> u64
-    requires { ⌜ Joins 64 (now arcs) × Chained (arcCount (now arcs)) (now chains) × (length (now row) ≡ 64) ⌝ }
-    ensures { λ _. ⌜ Keeps cap (now (arcs .entry)) (now (row .entry)) (now (row .exit)) ⌝ }
-{
-    let mut left = nodes;
-    let mut u = 0;
-    while u < ROW_LENGTH {
-        left = spread(arcs, chains, row, u, left, cap);
-        u += 1;
-    }
-    left
-}
-
-// Tries arcs outward from `from`, each node's arcs again where its entry was cut. This alone leaves a row settled but for rare graphs; `settle` makes sure.
-fn spread_from(arcs: &[u32], chains: &[u32], row: &mut [u32], from: usize, cap: u32)
-    requires { ⌜ Joins 64 (now arcs) × Chained (arcCount (now arcs)) (now chains) × (length (now row) ≡ 64) × (from < 64) ⌝ }
-    ensures { λ _. ⌜ Keeps cap (now (arcs .entry)) (now (row .entry)) (now (row .exit)) ⌝ }
-{
-    let mut left = 1u64 << from;
-    let mut turn = 0;
-    while turn < ROW_LENGTH {
-        if left == 0 {
-            return;
-        }
-        left = spread_all(arcs, chains, row, left, cap);
-        turn += 1;
-    }
-}
-
 // Stores 0 for the start itself, if it is open.
-fn start(marks: &[u8], from: usize, row: &mut [u32])
+pub fn start(marks: &[u8], from: usize, row: &mut [u32])
     requires { ⌜ (from < length (now marks)) × (from < length (now row)) ⌝ }
     ensures { λ _. ⌜ Started (now (marks .entry)) from (now (row .entry)) (now (row .exit)) ⌝ }
 {
@@ -256,59 +160,6 @@ pub fn settle_row(arcs: &[u32], marks: &[u8], from: usize, row: &mut [u32], cap:
     settle(arcs, row, cap);
 }
 
-// The same for a row that holds anything.
-fn fill_row(arcs: &[u32], chains: &[u32], marks: &[u8], from: usize, row: &mut [u32], cap: u32)
-    requires { ⌜ Joins 64 (now arcs) × Chained (arcCount (now arcs)) (now chains) ⌝ }
-    requires { ⌜ (length (now row) ≡ 64) × (from < 64) × (from < length (now marks)) × (cap < missing) ⌝ }
-    ensures { λ _. ⌜ ((N : Net) → StartOf N (now (arcs .entry)) (now (marks .entry)) from → RowIs N cap from (now (row .exit))) ⌝ }
-{
-    fill(row, MISSING);
-    start(marks, from, row);
-    spread_from(arcs, chains, row, from, cap);
-    settle(arcs, row, cap);
-}
-
-// Leaves in `row` the least length from `from` to each node, clear of the forbidden items; MISSING above `cap`.
-pub fn row_from(nodes: usize, arcs: &[u32], marks: &[u8], from: usize, row: &mut [u32], cap: u32)
-    requires { ⌜ Proper (netOf nodes (now arcs) (now marks)) × (length (now arcs) ≤ 1536) ⌝ }
-    requires { ⌜ (length (now row) ≡ 64) × (from < nodes) × (cap < missing) ⌝ }
-    ensures { λ _. ⌜ RowIs (netOf nodes (now (arcs .entry)) (now (marks .entry))) cap from (now (row .exit)) ⌝ }
-{
-    let mut packed = [0u32; ARC_NUMBERS];
-    let n = pack(nodes, arcs, marks, &mut packed);
-    let chains = chained(&packed[..n]);
-    fill_row(&packed[..n], &chains, marks, from, row, cap);
-}
-
-// The arcs with tail and head exchanged.
-fn turned(arcs: &[u32]) -> [u32; ARC_NUMBERS]
-    requires { ⌜ length (now arcs) ≤ 1536 ⌝ }
-    ensures { λ r. ⌜ (length r ≡ 1536) × TurnedTo (arcCount (now (arcs .entry))) (now (arcs .entry)) r ⌝ }
-{
-    let mut back = [0u32; ARC_NUMBERS];
-    let m = arcs.len() / 3;
-    let mut i = 0;
-    while i < m {
-        let at = i * 3;
-        back[at] = arcs[at + 1];
-        back[at + 1] = arcs[at];
-        back[at + 2] = arcs[at + 2];
-        i += 1;
-    }
-    back
-}
-
-// Leaves in `row` the least length from each node to `to`, clear of the forbidden items; MISSING above `cap`.
-pub fn row_to(nodes: usize, arcs: &[u32], marks: &[u8], to: usize, row: &mut [u32], cap: u32)
-    requires { ⌜ Proper (netOf nodes (now arcs) (now marks)) × (length (now arcs) ≤ 1536) ⌝ }
-    requires { ⌜ (length (now row) ≡ 64) × (to < nodes) × (cap < missing) ⌝ }
-    ensures { λ _. ⌜ RowTo (netOf nodes (now (arcs .entry)) (now (marks .entry))) cap to (now (row .exit)) ⌝ }
-{
-    let back = turned(arcs);
-    let n = arcs.len();
-    row_from(nodes, &back[..n], marks, to, row, cap);
-}
-
 // Settles the row of each start again, as `settle_row` does. Row `i` has the 64 numbers of the work from `i * 64` on.
 pub fn settle_rows(arcs: &[u32], marks: &[u8], starts: &[usize], work: &mut [u32], cap: u32)
     requires { ⌜ Joins 64 (now arcs) × StartsFit (now marks) (now starts) (now work) × (cap < missing) ⌝ }
@@ -319,28 +170,6 @@ pub fn settle_rows(arcs: &[u32], marks: &[u8], starts: &[usize], work: &mut [u32
     while i < starts.len() {
         let at = i * ROW_LENGTH;
         settle_row(arcs, marks, starts[i], &mut work[at..at + ROW_LENGTH], cap);
-        i += 1;
-    }
-}
-
-// Fills the row of each start, whatever the work held.
-pub fn fill_rows(arcs: &[u32], marks: &[u8], starts: &[usize], work: &mut [u32], cap: u32)
-    requires { ⌜ Joins 64 (now arcs) × StartsFit (now marks) (now starts) (now work) × (cap < missing) × (length (now arcs) ≤ 1536) ⌝ }
-    ensures { λ _. ⌜ ((N : Net) → StartsOf N (now (arcs .entry)) (now (marks .entry)) (now (starts .entry)) → RowsAre N cap (now (starts .entry)) (length (now (starts .entry))) (now (work .exit))) ⌝ }
-    ensures { λ _. ⌜ drop (length (now (starts .entry)) * 64) (now (work .exit)) ≡ drop (length (now (starts .entry)) * 64) (now (work .entry)) ⌝ }
-{
-    let chains = chained(arcs);
-    let mut i = 0;
-    while i < starts.len() {
-        let at = i * ROW_LENGTH;
-        fill_row(
-            arcs,
-            &chains,
-            marks,
-            starts[i],
-            &mut work[at..at + ROW_LENGTH],
-            cap,
-        );
         i += 1;
     }
 }

@@ -1,12 +1,12 @@
--- `rows::row_from` meets its contract. Assumes nothing.
+-- `spread::row_from` meets its contract. Assumes nothing.
 use mathlib.Core.Path.{refl, sym}
 use native.Mathlib.Omega.{arith}
 use lib.Seq.{length-take-le}
 use Rattle.rows.proofs.PackLaws.{packed-joins}
 use Rattle.rows.specs.Net.{netOf}
 use borrow.Author.Needs.{needs}
-use Rattle.rows.proofs.row_from.Statement.{statement}
-use Rattle.rows.proofs.row_from.Tie as tie
+use Rattle.spread.proofs.row_from.Statement.{statement}
+use Rattle.spread.proofs.row_from.Tie as tie
 
 slice-aggregate-pack : tie.Need-slice-aggregate-pack
 slice-aggregate-pack c = search needs

@@ -1,14 +1,14 @@
--- `rows::fill_rows` meets its contract. The loop's invariant: the rows before `i` hold least lengths, and the work from row `i` on is as it was. Assumes nothing.
+-- `spread::fill_rows` meets its contract. The loop's invariant: the rows before `i` hold least lengths, and the work from row `i` on is as it was. Assumes nothing.
 use mathlib.Core.Path.{_≡_, refl, sym, ap, _∙_, subst}
 use Prim.Native.Nat.{ℕ, _+_, _*_, _-_, _≤_}
 use native.Mathlib.Omega.{arith}
 use lib.ListN.{length, drop}
 use borrow.Rule.Slice.PartMut.{mid-len, same-len-mid, postOf}
 use Rattle.rows.proofs.WorkLaws.{rows-more, rest-more}
 use Rattle.rows.specs.Net.{Net}
 use Rattle.rows.specs.Rows.{StartsOf, RowsAre}
-use Rattle.rows.proofs.fill_rows.Statement.{statement}
-use Rattle.rows.proofs.fill_rows.Tie as tie
+use Rattle.spread.proofs.fill_rows.Statement.{statement}
+use Rattle.spread.proofs.fill_rows.Tie as tie
 
 abbrev Inv-loop : tie.InvT-loop
 Inv-loop arcs marks starts work₀ cap chains i₀ work i =

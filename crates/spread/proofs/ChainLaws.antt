@@ -6,7 +6,7 @@ use native.Mathlib.Omega.{arith}
 use native.Mathlib.Decide.{ℕ-discrete}
 use lib.ListN.{length, getD, set, replicate, length-set, getD-replicate}
 use lib.Seq.{getD-set-same, getD-set-other}
-use Rattle.rows.specs.Rows.{Chained}
+use Rattle.spread.specs.Arcs.{Chained}
 
 pub chain-begun : Chained 0 (replicate 576 0)
 chain-begun = record {

@@ -1,9 +1,9 @@
--- `rows::try_adding` meets its contract. Assumes nothing.
+-- `spread::try_adding` meets its contract. Assumes nothing.
 use native.Mathlib.Omega.{arith}
 use Rattle.rows.proofs.RowLaws.{fits, keep}
 use borrow.Author.Needs.{needs}
-use Rattle.rows.proofs.try_adding.Statement.{statement}
-use Rattle.rows.proofs.try_adding.Tie as tie
+use Rattle.spread.proofs.try_adding.Statement.{statement}
+use Rattle.spread.proofs.try_adding.Tie as tie
 
 try-arc-requires : tie.Need-try-arc-requires
 try-arc-requires c κs = search needs

@@ -1,11 +1,11 @@
--- `rows::spread_from` meets its contract. Assumes nothing.
+-- `spread::spread_from` meets its contract. Assumes nothing.
 use Prim.Native.Nat.{_-_}
 use mathlib.Core.Path.{_≡_, refl, _∙_}
 use native.Mathlib.Omega.{arith}
 use lib.ListN.{length}
 use Rattle.rows.specs.Rows.{Keeps}
-use Rattle.rows.proofs.spread_from.Statement.{statement}
-use Rattle.rows.proofs.spread_from.Tie as tie
+use Rattle.spread.proofs.spread_from.Statement.{statement}
+use Rattle.spread.proofs.spread_from.Tie as tie
 
 abbrev Inv-loop : tie.InvT-loop
 Inv-loop arcs chains row₀ from cap left₀ turn₀ row left turn = (length row ≡ length row₀) × Keeps cap arcs row₀ row

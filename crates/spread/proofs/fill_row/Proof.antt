@@ -1,14 +1,15 @@
--- `rows::fill_row` meets its contract: a row with no entry is sound, once its start is set it is good, and settled it holds the least lengths. Assumes nothing.
+-- `spread::fill_row` meets its contract: a row with no entry is sound, once its start is set it is good, and settled it holds the least lengths. Assumes nothing.
 use Prim.Native.Nat.{ℕ}
 use mathlib.Core.Path.{ap, _∙_}
 use mathlib.Core.List.{List}
 use native.Mathlib.Omega.{arith}
 use lib.ListN.{length, getD, getD-replicate}
-use Rattle.rows.proofs.RowLaws.{blank-sound, started, row-is}
+use Rattle.rows.proofs.RowLaws.{started, row-is}
 use Rattle.rows.specs.Held.{missing}
+use Rattle.spread.proofs.FillLaws.{blank-sound}
 use borrow.Author.Needs.{needs}
-use Rattle.rows.proofs.fill_row.Statement.{statement}
-use Rattle.rows.proofs.fill_row.Tie as tie
+use Rattle.spread.proofs.fill_row.Statement.{statement}
+use Rattle.spread.proofs.fill_row.Tie as tie
 
 fill-requires : tie.Need-fill-requires
 fill-requires c κs = search needs

@@ -1,12 +1,12 @@
--- `rows::chained` meets its contract. Assumes nothing.
+-- `spread::chained` meets its contract. Assumes nothing.
 use Prim.Native.Nat.{_-_, _≤_, _<_}
 use mathlib.Core.Path.{_≡_}
 use native.Mathlib.Omega.{arith}
-use Rattle.rows.proofs.ChainLaws.{chain-begun, chain-more}
 use Rattle.rows.specs.Net.{arcCount, tailIn}
-use Rattle.rows.specs.Rows.{Chained}
-use Rattle.rows.proofs.chained.Statement.{statement}
-use Rattle.rows.proofs.chained.Tie as tie
+use Rattle.spread.proofs.ChainLaws.{chain-begun, chain-more}
+use Rattle.spread.specs.Arcs.{Chained}
+use Rattle.spread.proofs.chained.Statement.{statement}
+use Rattle.spread.proofs.chained.Tie as tie
 
 abbrev Inv-loop : tie.InvT-loop
 Inv-loop arcs chains₀ m i₀ chains i = (i ≤ arcCount arcs) × Chained i chains

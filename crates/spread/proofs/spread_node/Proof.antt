@@ -1,12 +1,12 @@
--- `rows::spread` meets its contract: whatever arcs are tried, a good row is good still. Assumes nothing.
+-- `spread::spread_node` meets its contract: whatever arcs are tried, a good row is good still. Assumes nothing.
 use Prim.Native.Nat.{_-_, _≤_}
 use mathlib.Core.Path.{_≡_, refl, _∙_}
 use native.Mathlib.Omega.{arith}
 use lib.ListN.{length}
 use Rattle.rows.specs.Net.{arcCount}
 use Rattle.rows.specs.Rows.{Keeps}
-use Rattle.rows.proofs.spread.Statement.{statement}
-use Rattle.rows.proofs.spread.Tie as tie
+use Rattle.spread.proofs.spread_node.Statement.{statement}
+use Rattle.spread.proofs.spread_node.Tie as tie
 
 abbrev Inv-loop : tie.InvT-loop
 Inv-loop arcs chains row₀ u nodes cap left₀ k₀ row left k = (k ≤ arcCount arcs) × (length row ≡ length row₀) × Keeps cap arcs row₀ row
@@ -72,8 +72,8 @@ same-length c = c .before .loop .inv .1
 returns-2 : tie.Need-returns-2 Inv-loop μ-loop
 returns-2 c = c .before .loop .inv .2
 
-pub spread-spec : {M : Type 1} → statement M
-spread-spec =
+pub spread-node-spec : {M : Type 1} → statement M
+spread-node-spec =
     tie.close
     (tie.spec
     Inv-loop
