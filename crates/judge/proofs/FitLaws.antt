@@ -1,14 +1,13 @@
 -- What the rows say of an item, and a goal's least length of all goals. Assumes nothing.
-use Prim.Native.Nat.{ℕ, zero, suc, _+_, _-_, _*_, _/_, _≤_, _<_}
-use mathlib.Core.Path.{_≡_, refl, sym, ap, _∙_, subst}
-use mathlib.Core.Logic.{_⊎_, inl, inr}
-use mathlib.Core.Bool.{Bool, true, false, not, _&&_, false≢true}
+use Prim.Native.Nat.{ℕ, _+_, _≤_, _<_}
+use mathlib.Core.Path.{_≡_, refl, sym, ap, _∙_}
+use mathlib.Core.Bool.{true, false}
 use mathlib.Core.List.{List, [], _∷_}
 use native.Mathlib.Omega.{arith}
-use lib.ListN.{length, getD}
+use lib.ListN.{getD}
 use lib.Seq.{getD-drop}
-use lib.Dec.{eqb, leb, ltb}
-use borrow.Author.Tests.{le-leb, lt-leb, ltb-true, ltb-false}
+use lib.Dec.{leb}
+use borrow.Author.Tests.{le-leb, lt-leb}
 use Rattle.sections.specs.declared.Header.{Header}
 use Rattle.reader.specs.Answer.{sheetOf}
 use Rattle.rows.proofs.ArcLaws.{item-at}
@@ -18,10 +17,10 @@ use Rattle.rows.specs.Net.{netOf}
 use Rattle.sheet.specs.Sheet.{isForbidden}
 use Rattle.verdict.specs.Verdict.{fitsSheet}
 use Rattle.walks.proofs.Through.{through-one}
-use Rattle.walks.specs.Flat.{graphOf, arcsOf}
+use Rattle.walks.specs.Flat.{graphOf}
 use Rattle.walks.specs.Goals.{entryOf, exitOf, ownOf}
-use Rattle.walks.specs.Graph.{Graph, arcItem, itemCount, closedIn, least, fits}
-use Rattle.walks.specs.Lengths.{Least, none, some, within, plus, lesser}
+use Rattle.walks.specs.Graph.{closedIn, least, fits}
+use Rattle.walks.specs.Lengths.{Least, none, some, within, plus}
 use Rattle.judge.specs.Ready.{Rows}
 
 -- a length as a number is at most the cap exactly where the length is

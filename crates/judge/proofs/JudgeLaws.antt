@@ -1,15 +1,14 @@
 -- From what the code finds to the verdict. Assumes nothing.
-use Prim.Native.Nat.{ℕ, zero, suc, _+_, _-_, _*_, _/_, _≤_, _<_}
-use mathlib.Core.Path.{_≡_, refl, sym, ap, _∙_, subst}
+use Prim.Native.Nat.{ℕ, zero, suc, _+_, _≤_, _<_}
+use mathlib.Core.Path.{_≡_, refl, sym, ap, _∙_}
 use mathlib.Core.Bool.{Bool, true, false, not, _&&_}
-use mathlib.Core.List.{List, [], _∷_, _++_}
+use mathlib.Core.List.{List, [], _∷_}
 use native.Mathlib.Omega.{arith}
-use lib.ListN.{length, getD, take, drop, set}
+use lib.ListN.{length, getD, take, drop}
 use lib.Seq.{take-at, drop-drop}
-use lib.Dec.{eqb, leb}
+use lib.Dec.{eqb}
 use borrow.Author.Tests.{ne-eqb}
 use Rattle.sections.specs.declared.Header.{Header}
-use Rattle.judge.specs.declared.Verdict.{Verdict}
 use Rattle.lengths.specs.Table.{GoalsFit}
 use Rattle.lists.proofs.AscendLaws.{ascends-distinct, keep-none, keep-first, span-member}
 use Rattle.lists.proofs.MemberLaws.{keep-member, member-head}
@@ -21,9 +20,9 @@ use Rattle.rows.specs.Net.{netOf}
 use Rattle.sheet.proofs.MarkLaws.{required-ascend, required-below, is-mandatory}
 use Rattle.sheet.specs.Sheet.{Sheet, isMandatory, allItems, required, markOf}
 use Rattle.verdict.specs.Verdict.{fitsSheet, unmet, verdictFrom, verdict}
-use Rattle.walks.specs.Flat.{graphOf, arcsOf}
+use Rattle.walks.specs.Flat.{graphOf}
 use Rattle.walks.specs.Graph.{itemCount}
-use Rattle.judge.specs.Ready.{Whole, Rows, Judged}
+use Rattle.judge.specs.Ready.{Whole, Judged}
 
 -- the items that the header counts
 pub items-are : {h : Header} {arcs marks : List ℕ} → Whole h arcs marks → itemCount (graphOf (h .nodes) arcs) ≡ h .nodes + h .arcs

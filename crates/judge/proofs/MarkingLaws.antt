@@ -2,26 +2,24 @@
 use Prim.Native.Nat.{ℕ, suc, _+_, _≤_, _<_}
 use mathlib.Core.Path.{_≡_, refl, sym, ap, _∙_}
 use mathlib.Core.Logic.{_⊎_, inl, inr}
-use mathlib.Core.Bool.{Bool, true, false, not, _&&_, _||_}
+use mathlib.Core.Bool.{Bool, true, false, _||_}
 use mathlib.Core.List.{List, [], _∷_, _++_}
 use native.Mathlib.Omega.{arith}
 use native.Mathlib.Numerals.{add-one}
 use lib.ListN.{length, getD, take, set, length-set}
 use lib.Seq.{getD-set-same, getD-set-other, take-suc, length-take-le, take-all}
-use lib.Dec.{eqb, ltb}
-use borrow.Author.Tests.{eqb-true, eqb-false, eq-eqb, ne-eqb, lt-ltb, le-ltb}
+use lib.Dec.{eqb}
+use borrow.Author.Tests.{eqb-true, eqb-false, ne-eqb, lt-ltb, le-ltb}
 use Rattle.sections.specs.declared.Header.{Header}
 use Rattle.lists.proofs.FrontLaws.{push-at, length-front}
 use Rattle.lists.proofs.TestLaws.{true-or-false, true-or}
 use Rattle.lists.specs.Lists.{front, pick}
 use Rattle.reader.specs.Answer.{Ends, sheetOf}
-use Rattle.sheet.proofs.MarkLaws.{is-open, open-is}
+use Rattle.sheet.proofs.MarkLaws.{is-open}
 use Rattle.sheet.specs.Sheet.{Sheet, markOf, isOpen, allArcs, endsMandatory}
 use Rattle.verdict.proofs.SlipOfPass.{new-marks-size, new-marks-at}
 use Rattle.verdict.proofs.VerdictLaws.{other-mark}
 use Rattle.verdict.specs.Verdict.{fitsSheet, isPruned, isForced, newMark, newMarks}
-use Rattle.walks.specs.Flat.{graphOf}
-use Rattle.walks.specs.Graph.{itemCount}
 use Rattle.judge.proofs.JudgeLaws.{items-are}
 use Rattle.judge.specs.Ready.{Whole, Forced}
 

@@ -33,8 +33,8 @@ pub fn fill_rows(header: Header, arcs: &[u32], marks: &[u8], rows: &mut [u32])
     let source = header.source;
     let target = header.target;
     let limit = header.limit;
-    rows::row_from(nodes, arcs, marks, source, &mut rows[..ROW_LENGTH], limit);
-    rows::row_to(nodes, arcs, marks, target, &mut rows[ROW_LENGTH..], limit);
+    spread::row_from(nodes, arcs, marks, source, &mut rows[..ROW_LENGTH], limit);
+    spread::row_to(nodes, arcs, marks, target, &mut rows[ROW_LENGTH..], limit);
 }
 
 // Whether some walk within the limit, clear of the forbidden items, meets the item: to its entry, over it, and on from its exit.

@@ -8,8 +8,8 @@ use Rattle.judge.proofs.fill_rows.Statement.{statement}
 use Rattle.judge.proofs.fill_rows.Tie as tie
 use Rattle.judge.proofs.fill_rows.Reads as reads
 use Rattle.judge.proofs.fill_rows.Lts as lts
-use Rattle.rows.proofs.row_from.Reads as row-from-reads
-use Rattle.rows.proofs.row_to.Reads as row-to-reads
+use Rattle.spread.proofs.row_from.Reads as row-from-reads
+use Rattle.spread.proofs.row_to.Reads as row-to-reads
 
 -- src/lib.rt:37:48
 slice-relend-prefix-row-from : tie.Need-slice-relend-prefix-row-from
