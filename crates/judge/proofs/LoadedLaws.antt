@@ -12,7 +12,8 @@ use Rattle.reader.proofs.TakenLaws.{taken-begun}
 use Rattle.reader.specs.Answer.{sheetOf, headerOf, answered, arcsBegun, marksBegun}
 use Rattle.rows.proofs.ArcLaws.{tail-at, head-at}
 use Rattle.rows.specs.Net.{netOf}
-use Rattle.sheet.proofs.SheetLaws.{Good, taken-got, taken-good, good-tail, good-head}
+use Rattle.sheet.specs.Good.{Good}
+use Rattle.sheet.proofs.SheetLaws.{taken-got, taken-good, good-tail, good-head}
 use Rattle.sheet.specs.Reader.{taken}
 use Rattle.sheet.specs.Sheet.{Sheet, required}
 use Rattle.varint.specs.Varint.{Read, got, refuse}
@@ -31,6 +32,11 @@ pub record Loaded (sheet : List ℕ) (h : Header) (arcs marks : List ℕ) : Type
 -- arcs in one list of numbers make the same graph
 same-graph : (S : Sheet) → graphOf (S .graph .nodes) (flat (S .graph .arcs)) ≡ S .graph
 same-graph S = ap {B = Graph} (λ (xs : List Arc). record { nodes = S .graph .nodes; arcs = xs }) (arcs-flat (S .graph .arcs))
+
+same-sheet : (S : Sheet) → sheetOf (headerOf S) (flat (S .graph .arcs)) (S .marks) ≡ S
+unfolding headerOf
+same-sheet S =
+    ap {B = Sheet} (λ (G : Graph). record { graph = G; source = S .source; target = S .target; limit = S .limit; marks = S .marks }) (same-graph S)
 
 module _ (S : Sheet) (g : Good S) where
   counted : length (flat (S .graph .arcs)) / 3 ≡ length (S .graph .arcs)
@@ -51,6 +57,7 @@ module _ (S : Sheet) (g : Good S) where
     source = g .source;
     target = g .target;
     limit = g .limit;
+    good = subst (λ (S : Sheet). Good S) (sym (same-sheet S)) g;
     eight = rw (arcs-flat (S .graph .arcs)) f;
   }
 
@@ -73,9 +80,6 @@ loaded sheet d e arcs marks h q a m = go (taken sheet) refl q
       where
         took-is : (k : Header) → Took h ≡ Took k → h ≡ k
         took-is k e = cc
-
-        same-sheet : (S : Sheet) → sheetOf (headerOf S) (flat (S .graph .arcs)) (S .marks) ≡ S
-        same-sheet S = ap {B = Sheet} (λ (G : Graph). record { graph = G; source = S .source; target = S .target; limit = S .limit; marks = S .marks }) (same-graph S)
 
 -- a read that refused the sheet
 pub unloaded : (sheet : List ℕ) (w : ℕ) → Refused w ≡ answered (taken sheet) → taken sheet ≡ refuse w

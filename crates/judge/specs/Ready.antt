@@ -8,6 +8,7 @@ use lib.Dec.{eqb}
 use Rattle.rows.specs.Net.{netOf, Proper}
 use Rattle.rows.specs.Rows.{RowIs, RowTo}
 use Rattle.sheet.specs.Sheet.{Sheet, required}
+use Rattle.sheet.specs.Good.{Good}
 use Rattle.verdict.specs.Verdict.{isForced, verdict}
 use Rattle.sections.specs.declared.Header.{Header}
 use Rattle.reader.specs.Answer.{sheetOf, Held}
@@ -21,6 +22,7 @@ pub record Whole (h : Header) (arcs marks : List ℕ) : Type 0 where
   pub source : h .source < h .nodes
   pub target : h .target < h .nodes
   pub limit : h .limit ≤ 1000000
+  pub good : Good (sheetOf h arcs marks)
   pub eight : length (required (sheetOf h arcs marks)) ≤ 8
 
 -- the least lengths from the source, and behind them those to the target, where they keep to the limit

@@ -15,6 +15,11 @@ use Rattle.explain.specs.Reasons.{but}
 use Rattle.lists.proofs.MemberLaws.{member-head, member-cases, member-none}
 use Rattle.lists.proofs.TestLaws.{false-back, and-true, not-true, true-or-false, false-of}
 use Rattle.lists.specs.Lists.{member}
+use Rattle.sheet.proofs.MarkLaws.{required-is, is-required, open-is, is-open, is-mandatory}
+use Rattle.sheet.proofs.SheetLaws.{good-mark}
+use Rattle.sheet.specs.Sheet.{Sheet, isForbidden, required, isOpen, markOf}
+use Rattle.sheet.specs.Slip.{Slip}
+use Rattle.varint.specs.Varint.{got}
 use Rattle.verdict.proofs.AcceptedLaws.{accepted-good}
 use Rattle.verdict.proofs.Demand2.{verdict-in, marks-exact, refuses-is, is-refused}
 use Rattle.verdict.proofs.SlipOfPass.{pass-finishes}
@@ -22,11 +27,6 @@ use Rattle.verdict.proofs.VerdictLaws.{one, Stands, stands-all, fits-fewer, ref
 use Rattle.verdict.specs.Accepted.{accepted}
 use Rattle.verdict.specs.Pass.{Refuses, EndsForbidden}
 use Rattle.verdict.specs.Verdict.{reasonsFor, fitsSheet, slipFor, Verdict, verdict, isPruned, newMark, passSlip}
-use Rattle.sheet.proofs.MarkLaws.{required-is, is-required, open-is, is-open, is-mandatory}
-use Rattle.sheet.proofs.SheetLaws.{good-mark}
-use Rattle.sheet.specs.Sheet.{Sheet, isForbidden, required, isOpen, markOf}
-use Rattle.sheet.specs.Slip.{Slip}
-use Rattle.varint.specs.Varint.{got}
 use Rattle.walks.proofs.FitsLaws.{fits-anti, none-fits}
 use Rattle.walks.specs.Graph.{Graph, Arc, noArc, tailOf, headOf, weightOf, itemCount}
 use Rattle.walks.specs.Walk.{NoWalk, SomeWalk}

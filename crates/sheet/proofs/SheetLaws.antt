@@ -12,13 +12,9 @@ use Rattle.lists.specs.Lists.{pick}
 use Rattle.varint.proofs.VarintLaws.{after-got, number-got, got-both, several-first}
 use Rattle.varint.specs.Varint.{Read, got, refuse, after, number, several}
 use Rattle.walks.specs.Graph.{Graph, Arc, noArc, tailOf, headOf, weightOf, itemCount}
+use Rattle.sheet.specs.Good.{Good, GoodArc, All}
 use Rattle.sheet.specs.Reader.{arcMinutes, arcHead, readArc, readMark, readMarks, readArcs, readLimit, readTarget, readSource, readArcCount, readSheet, complete, taken}
 use Rattle.sheet.specs.Sheet.{Sheet, markOf, required}
-
--- each entry of the list has the property
-abbrev pub All : {A : Type 0} → (A → Type 0) → List A → Type 0
-All P [] = Unit {0}
-All P (x ∷ xs) = P x × All P xs
 
 pub several-got : {A : Type 0} (P : A → Type 0) (f : List ℕ → Read A) → ((bs : List ℕ) (a : A) (rest : List ℕ) → f bs ≡ got a rest → P a)
     → (k : ℕ) (bs : List ℕ) (xs : List A) (rest : List ℕ) → several f k bs ≡ got xs rest → (length xs ≡ k) × All P xs
@@ -28,13 +24,6 @@ several-got P f h (suc k) bs xs rest e =
     let s = several-first f k bs xs rest e in
     let i = several-got P f h k (s .1) (s .2) rest (s .4) in
     rw (s .5) (ap suc (i .0), (h bs (s .0) (s .1) (s .3), i .1))
-
--- an arc of a graph of n nodes, as a sheet may have it
-pub record GoodArc (n : ℕ) (x : Arc) : Type 0 where
-  pub tail : x .tail < n
-  pub head : x .head < n
-  pub loopless : x .head ≡ x .tail → ⊥
-  pub weight : x .weight ≤ 65535
 
 minutes-got : (n t h : ℕ) → t < n → h < n → (h ≡ t → ⊥) → (bs : List ℕ) (x : Arc) (rest : List ℕ) → arcMinutes t h bs ≡ got x rest → GoodArc n x
 unfolding arcMinutes
@@ -56,19 +45,6 @@ unfolding readArc
 arc-got n bs x rest e =
     let a = after-got (number 9 (λ x. ltb x n) bs) (arcHead n) x rest e in
     head-got n (a .0) (ltb-true (a .0) n (number-got 9 (λ x. ltb x n) bs (a .0) (a .1) (a .2) .0)) (a .1) x rest (a .3)
-
--- a sheet that was read
-pub record Good (S : Sheet) : Type 0 where
-  pub low : 2 ≤ S .graph .nodes
-  pub nodes : S .graph .nodes ≤ 64
-  pub arcs : length (S .graph .arcs) ≤ 512
-  pub source : S .source < S .graph .nodes
-  pub target : S .target < S .graph .nodes
-  pub apart : S .target ≡ S .source → ⊥
-  pub limit : S .limit ≤ 1000000
-  pub arc : All (GoodArc (S .graph .nodes)) (S .graph .arcs)
-  pub size : length (S .marks) ≡ itemCount (S .graph)
-  pub mark : All (λ x. x ≤ 2) (S .marks)
 
 -- what the five numbers in front say
 record Header (n m s t k : ℕ) : Type 0 where

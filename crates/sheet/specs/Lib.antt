@@ -1,4 +1,5 @@
 pub mod Sheet
+pub mod Good
 pub mod Reader
 pub mod ArcView
 pub mod Slip

@@ -5,7 +5,8 @@ use mathlib.Core.Bool.{false}
 use mathlib.Core.List.{List, []}
 use native.Mathlib.Omega.{arith}
 use borrow.Author.Tests.{le-ltb}
-use Rattle.sheet.proofs.SheetLaws.{Good, Taken, taken-got, taken-good, good-weight}
+use Rattle.sheet.proofs.SheetLaws.{Taken, taken-got, taken-good, good-weight}
+use Rattle.sheet.specs.Good.{Good}
 use Rattle.sheet.specs.Reader.{taken}
 use Rattle.sheet.specs.Sheet.{Sheet, isForbidden, required}
 use Rattle.varint.specs.Varint.{Read, got, refuse, after}

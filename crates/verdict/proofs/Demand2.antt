@@ -14,8 +14,8 @@ use Rattle.lists.proofs.MemberLaws.{member-keep, keep-member, member-none}
 use Rattle.lists.proofs.TestLaws.{true-or, or-true, true-or-false}
 use Rattle.lists.specs.Lists.{member}
 use Rattle.sheet.proofs.MarkLaws.{required-is, is-required}
-use Rattle.sheet.proofs.SheetLaws.{Good}
 use Rattle.sheet.proofs.SlipLaws.{slip-back}
+use Rattle.sheet.specs.Good.{Good}
 use Rattle.sheet.specs.Sheet.{Sheet, isOpen, isMandatory, isForbidden, allNodes, allArcs, endsMandatory, required}
 use Rattle.sheet.specs.Slip.{readSlip, Slip, as17}
 use Rattle.varint.proofs.VarintLaws.{got-both}

@@ -13,8 +13,9 @@ use Rattle.lists.proofs.AscendLaws.{ascends-distinct, length-span, map-span-at}
 use Rattle.lists.proofs.Pigeonhole.{Below, below-all, below-le, pigeonhole}
 use Rattle.lists.specs.Lists.{span, ascends}
 use Rattle.sheet.proofs.MarkLaws.{required-ascend, required-below}
-use Rattle.sheet.proofs.SheetLaws.{Good, good-mark}
+use Rattle.sheet.proofs.SheetLaws.{good-mark}
 use Rattle.sheet.proofs.SlipLaws.{Small, slip-size}
+use Rattle.sheet.specs.Good.{Good}
 use Rattle.sheet.specs.Sheet.{Sheet, required, allItems}
 use Rattle.sheet.specs.Slip.{Slip, slipNumbers, slipBytes, marksBytes}
 use Rattle.varint.specs.Varint.{got, after, writeNumber, writeNumbers, writeGroups}
