@@ -1,1 +1,2 @@
 pub mod SlipLaws
+pub mod PassLaws

@@ -2,3 +2,4 @@ pub mod SheetLaws
 pub mod MarkLaws
 pub mod SlipLaws
 pub mod ArcViewLaws
+pub mod RefusalLaws
