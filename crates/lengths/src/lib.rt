@@ -12,6 +12,7 @@ ghost use Rattle.rows.specs.Net.{Net, netOf, graph, closed, arcCount, Proper, J
 ghost use Rattle.lengths.specs.Sets.{has as hasOf, chosen, given, past as pastOf};
 ghost use Rattle.lengths.specs.Table.{GoalsFit, StartsAre, Rowed, Noted, Filled, FilledTo, Asked, TableFits, TableOnly};
 
+// What stands for a length that is missing or above the cap.
 const MISSING: u32 = 0xFFFF_FFFF;
 
 // The mark of a forbidden item.

@@ -1,4 +1,4 @@
--- `lengths::entry` meets its contract. Assumes nothing.
+-- `lengths::entry` meets its contract: an item below the nodes is a node, any other an arc with its tail at the first of three numbers. Assumes nothing.
 use Prim.Native.Nat.{ℕ, _+_, _-_, _*_}
 use mathlib.Core.Path.{_≡_, sym, ap, _∙_}
 use mathlib.Core.List.{[]}

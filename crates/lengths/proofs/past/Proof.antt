@@ -1,4 +1,4 @@
--- `lengths::past` meets its contract. Assumes nothing.
+-- `lengths::past` meets its contract: the goals before are met by `reach`, and then the goal adds its own length. Assumes nothing.
 use native.Mathlib.Omega.{arith}
 use Rattle.lengths.proofs.TableLaws.{set-small, past-is}
 use borrow.Author.Needs.{needs}
