@@ -1,6 +1,6 @@
 // The parts of a sheet (document 01, 'Sheet and slip'): its numbers, each judged as it is read, the five in front, the arcs and the marks.
 ghost use mathlib.Core.Path.{_≡_};
-ghost use Prim.Native.Nat.{_≤_};
+ghost use Prim.Native.Nat.{_*_, _≤_};
 ghost use lib.ListN.{length, drop};
 ghost use lib.Dec.{ltb};
 ghost use Rattle.lists.specs.Lists.{front};
@@ -151,7 +151,7 @@ fn arc_at(sheet: &[u8], at: usize, nodes: u32) -> ArcRead
 
 // Reads the arcs at the front of `section` and stores tail, head and minutes of each over the front of `arcs`.
 pub fn arcs_in(section: &[u8], nodes: u32, count: usize, arcs: &mut [u32]) -> Section
-    requires { ⌜ (count ≤ 512) × (1536 ≤ length (now arcs)) ⌝ }
+    requires { ⌜ 3 * count ≤ length (now arcs) ⌝ }
     ensures { λ r. ⌜ sectionOf (now (section .entry)) (begun (readArc nodes) count (now (section .entry))) r ≡ several (readArc nodes) count (now (section .entry)) ⌝ }
     ensures { λ _. ⌜ now (arcs .exit) ≡ front (flat (begun (readArc nodes) count (now (section .entry)))) (now (arcs .entry)) ⌝ }
 {
