@@ -9,9 +9,11 @@ ghost use Rattle.walks.specs.Flat.{flat};
 ghost use Rattle.sheet.specs.Reader.{readArc, readMark};
 ghost use Rattle.varint.specs.Answer.{sectionOf};
 ghost use Rattle.varint.specs.Begun.{begun};
-ghost use Rattle.sections.specs.Sections.{judgedOf, nextOf, headerIn, readHeader, HeaderFits, arcOf};
+ghost use Rattle.sections.specs.Sections.{judgedOf, nextOf, headerIn, headerSource, readHeader, HeaderFits, arcOf};
 use varint::Number;
 use varint::Section;
+
+const NODES_LEAST: u32 = 2;
 
 const NODES_END: u32 = 65;
 
@@ -68,6 +70,44 @@ pub struct Field {
     pub next: usize,
 }
 
+// Reads source, target and limit, which stand from `at` on.
+fn header_ends(sheet: &[u8], at: usize, nodes: u32, arcs: u32) -> HeaderRead
+    requires { ⌜ (2 ≤ nodes) × (nodes ≤ 64) × (arcs ≤ 512) ⌝ }
+    ensures { λ r. ⌜ headerIn (now (sheet .entry)) r ≡ headerSource nodes arcs (drop at (now (sheet .entry))) ⌝ }
+    ensures { λ r. ⌜ HeaderFits (now (sheet .entry)) r ⌝ }
+{
+    let source = match judged_at(sheet, at, nodes, 7) {
+        Judged::Fine(x, next) => Field {
+            value: x,
+            next: next,
+        },
+        Judged::Wrong(why) => return HeaderRead::Fault(why),
+    };
+    let target = match judged_at(sheet, source.next, nodes, 7) {
+        Judged::Fine(x, next) => Field {
+            value: x,
+            next: next,
+        },
+        Judged::Wrong(why) => return HeaderRead::Fault(why),
+    };
+    if target.value == source.value {
+        return HeaderRead::Fault(7);
+    }
+    match judged_at(sheet, target.next, LIMIT_END, 8) {
+        Judged::Fine(limit, next) => {
+            let header = Header {
+                nodes: nodes as usize,
+                arcs: arcs as usize,
+                source: source.value as usize,
+                target: target.value as usize,
+                limit: limit,
+            };
+            HeaderRead::Five(header, next)
+        }
+        Judged::Wrong(why) => HeaderRead::Fault(why),
+    }
+}
+
 // Reads the five numbers in front.
 pub fn header_of(sheet: &[u8]) -> HeaderRead
     ensures { λ r. ⌜ headerIn (now (sheet .entry)) r ≡ readHeader (now (sheet .entry)) ⌝ }
@@ -80,44 +120,11 @@ pub fn header_of(sheet: &[u8]) -> HeaderRead
         },
         Judged::Wrong(why) => return HeaderRead::Fault(why),
     };
-    if nodes.value < 2 {
+    if nodes.value < NODES_LEAST {
         return HeaderRead::Fault(5);
     }
-    let arcs = match judged_at(sheet, nodes.next, ARCS_END, 6) {
-        Judged::Fine(x, next) => Field {
-            value: x,
-            next: next,
-        },
-        Judged::Wrong(why) => return HeaderRead::Fault(why),
-    };
-    let source = match judged_at(sheet, arcs.next, nodes.value, 7) {
-        Judged::Fine(x, next) => Field {
-            value: x,
-            next: next,
-        },
-        Judged::Wrong(why) => return HeaderRead::Fault(why),
-    };
-    let target = match judged_at(sheet, source.next, nodes.value, 7) {
-        Judged::Fine(x, next) => Field {
-            value: x,
-            next: next,
-        },
-        Judged::Wrong(why) => return HeaderRead::Fault(why),
-    };
-    if target.value == source.value {
-        return HeaderRead::Fault(7);
-    }
-    match judged_at(sheet, target.next, LIMIT_END, 8) {
-        Judged::Fine(x, next) => HeaderRead::Five(
-            Header {
-                nodes: nodes.value as usize,
-                arcs: arcs.value as usize,
-                source: source.value as usize,
-                target: target.value as usize,
-                limit: x,
-            },
-            next,
-        ),
+    match judged_at(sheet, nodes.next, ARCS_END, 6) {
+        Judged::Fine(arcs, next) => header_ends(sheet, next, nodes.value, arcs),
         Judged::Wrong(why) => HeaderRead::Fault(why),
     }
 }
