@@ -1,3 +1,4 @@
 pub mod RequiredLaws
 pub mod TakenLaws
 pub mod ViewLaws
+pub mod CallerLaws

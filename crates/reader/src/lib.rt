@@ -17,6 +17,11 @@ use varint::Section;
 
 const REQUIRED_MOST: usize = 8;
 
+// How many numbers stand in a sheet's header, and for each arc.
+const HEADER_NUMBERS: usize = 5;
+
+const ARC_NUMBERS: usize = 3;
+
 // The node is marked, where it is one of those that `ends` has a place for.
 fn mark_end(ends: &mut [u8], node: u32)
     ensures { λ _. ⌜ now (ends .exit) ≡ set (now (ends .entry)) node 1 ⌝ }
@@ -168,11 +173,11 @@ pub fn arc_view(sheet: &[u8], arc: u32) -> &[u8]
         SheetRead::Taken(header) => header,
         SheetRead::Refused(_) => return &sheet[0..0],
     };
-    let l = arc as usize;
-    if header.arcs <= l {
+    let earlier = arc as usize;
+    if header.arcs <= earlier {
         return &sheet[0..0];
     }
-    let from = past_numbers(sheet, 0, 5 + 3 * l);
-    let to = past_numbers(sheet, from, 3);
+    let from = past_numbers(sheet, 0, HEADER_NUMBERS + ARC_NUMBERS * earlier);
+    let to = past_numbers(sheet, from, ARC_NUMBERS);
     &sheet[from..to]
 }

@@ -20,6 +20,7 @@ nodes-number bs =
     ap (λ (f : ℕ → Bool). number 5 f bs) (fun-ext (λ x. and-swap (leb 2 x) (leb x 64) ∙ ap (λ (b : Bool). b && leb 2 x) (sym (leb·suc-suc x 64))))
     ∙ number-and 5 (under 65) (λ x. leb 2 x) bs
 
+-- nodes and arcs
 module _ (s : List ℕ) where
   pub nodes-not : {e : ℕ} → refuse e ≡ number 5 (under 65) s → refuse e ≡ readHeader s
   unfolding readHeader after
@@ -39,40 +40,41 @@ module _ (s : List ℕ) where
       unfolding headerArcs after
       arcs-not e = sym (from-nodes ∙ rw (number-most 6 512 r₁, ← e))
 
-      module _ {m : ℕ} {r₂ : List ℕ} (em : got m r₂ ≡ number 6 (under 513) r₁) where
-        from-arcs : readHeader s ≡ headerSource n m r₂
-        unfolding headerArcs after
-        from-arcs = from-nodes ∙ rw (number-most 6 512 r₁, ← em)
+      pub arcs-read : {m : ℕ} {r₂ : List ℕ} → got m r₂ ≡ number 6 (under 513) r₁ → headerSource n m r₂ ≡ readHeader s
+      unfolding headerArcs after
+      arcs-read e = sym (from-nodes ∙ rw (number-most 6 512 r₁, ← e))
 
-        pub source-not : {e : ℕ} → refuse e ≡ number 7 (under n) r₂ → refuse e ≡ readHeader s
-        unfolding headerSource after
-        source-not e = sym (from-arcs ∙ rw (← e))
+-- source, target and limit
+module _ (n m : ℕ) (bs : List ℕ) where
+  pub source-not : {e : ℕ} → refuse e ≡ number 7 (under n) bs → refuse e ≡ headerSource n m bs
+  unfolding headerSource after
+  source-not e = rw (← e)
 
-        module _ {a : ℕ} {r₃ : List ℕ} (ea : got a r₃ ≡ number 7 (under n) r₂) where
-          from-source : readHeader s ≡ headerTarget n m a r₃
-          unfolding headerSource after
-          from-source = from-arcs ∙ rw (← ea)
+  module _ {a : ℕ} {r₁ : List ℕ} (ea : got a r₁ ≡ number 7 (under n) bs) where
+    from-source : headerSource n m bs ≡ headerTarget n m a r₁
+    unfolding headerSource after
+    from-source = rw (← ea)
 
-          pub target-not : {e : ℕ} → refuse e ≡ number 7 (under n) r₃ → refuse e ≡ readHeader s
-          unfolding headerTarget after
-          target-not e = sym (from-source ∙ rw (number-and 7 (under n) (λ x. not (eqb x a)) r₃, ← e))
+    pub target-not : {e : ℕ} → refuse e ≡ number 7 (under n) r₁ → refuse e ≡ headerSource n m bs
+    unfolding headerTarget after
+    target-not e = sym (from-source ∙ rw (number-and 7 (under n) (λ x. not (eqb x a)) r₁, ← e))
 
-          module _ {b : ℕ} {r₄ : List ℕ} (eb : got b r₄ ≡ number 7 (under n) r₃) where
-            pub target-source : b ≡ a → refuse 7 ≡ readHeader s
-            unfolding headerTarget after judged
-            target-source q = sym (from-source ∙ rw (number-and 7 (under n) (λ x. not (eqb x a)) r₃, ← eb, eq-eqb _ _ q))
+    module _ {b : ℕ} {r₂ : List ℕ} (eb : got b r₂ ≡ number 7 (under n) r₁) where
+      pub target-source : b ≡ a → refuse 7 ≡ headerSource n m bs
+      unfolding headerTarget after judged
+      target-source q = sym (from-source ∙ rw (number-and 7 (under n) (λ x. not (eqb x a)) r₁, ← eb, eq-eqb _ _ q))
 
-            module _ (q : b ≡ a → ⊥) where
-              from-target : readHeader s ≡ headerLimit n m a b r₄
-              unfolding headerTarget after judged
-              from-target = from-source ∙ rw (number-and 7 (under n) (λ x. not (eqb x a)) r₃, ← eb, ne-eqb _ _ q)
+      module _ (q : b ≡ a → ⊥) where
+        from-target : headerSource n m bs ≡ headerLimit n m a b r₂
+        unfolding headerTarget after judged
+        from-target = from-source ∙ rw (number-and 7 (under n) (λ x. not (eqb x a)) r₁, ← eb, ne-eqb _ _ q)
 
-              pub limit-not : {e : ℕ} → refuse e ≡ number 8 (under 1000001) r₄ → refuse e ≡ readHeader s
-              unfolding headerLimit after
-              limit-not e = sym (from-target ∙ rw (number-most 8 1000000 r₄, ← e))
+        pub limit-not : {e : ℕ} → refuse e ≡ number 8 (under 1000001) r₂ → refuse e ≡ headerSource n m bs
+        unfolding headerLimit after
+        limit-not e = sym (from-target ∙ rw (number-most 8 1000000 r₂, ← e))
 
-              pub header-read :
-                  {k : ℕ} {r₅ : List ℕ} → got k r₅ ≡ number 8 (under 1000001) r₄
-                  → got (record { nodes = n; arcs = m; source = a; target = b; limit = k }) r₅ ≡ readHeader s
-              unfolding headerLimit after
-              header-read e = sym (from-target ∙ rw (number-most 8 1000000 r₄, ← e))
+        pub header-read :
+            {k : ℕ} {r₃ : List ℕ} → got k r₃ ≡ number 8 (under 1000001) r₂
+            → got (record { nodes = n; arcs = m; source = a; target = b; limit = k }) r₃ ≡ headerSource n m bs
+        unfolding headerLimit after
+        header-read e = sym (from-target ∙ rw (number-most 8 1000000 r₂, ← e))

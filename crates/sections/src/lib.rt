@@ -1,6 +1,6 @@
 // The parts of a sheet (document 01, 'Sheet and slip'): its numbers, each judged as it is read, the five in front, the arcs and the marks.
 ghost use mathlib.Core.Path.{_≡_};
-ghost use Prim.Native.Nat.{_≤_};
+ghost use Prim.Native.Nat.{_*_, _≤_};
 ghost use lib.ListN.{length, drop};
 ghost use lib.Dec.{ltb};
 ghost use Rattle.lists.specs.Lists.{front};
@@ -9,9 +9,11 @@ ghost use Rattle.walks.specs.Flat.{flat};
 ghost use Rattle.sheet.specs.Reader.{readArc, readMark};
 ghost use Rattle.varint.specs.Answer.{sectionOf};
 ghost use Rattle.varint.specs.Begun.{begun};
-ghost use Rattle.sections.specs.Sections.{judgedOf, nextOf, headerIn, readHeader, HeaderFits, arcOf};
+ghost use Rattle.sections.specs.Sections.{judgedOf, nextOf, headerIn, headerSource, readHeader, HeaderFits, arcOf};
 use varint::Number;
 use varint::Section;
+
+const NODES_LEAST: u32 = 2;
 
 const NODES_END: u32 = 65;
 
@@ -68,6 +70,44 @@ pub struct Field {
     pub next: usize,
 }
 
+// Reads source, target and limit, which stand from `at` on.
+fn header_ends(sheet: &[u8], at: usize, nodes: u32, arcs: u32) -> HeaderRead
+    requires { ⌜ (2 ≤ nodes) × (nodes ≤ 64) × (arcs ≤ 512) ⌝ }
+    ensures { λ r. ⌜ headerIn (now (sheet .entry)) r ≡ headerSource nodes arcs (drop at (now (sheet .entry))) ⌝ }
+    ensures { λ r. ⌜ HeaderFits (now (sheet .entry)) r ⌝ }
+{
+    let source = match judged_at(sheet, at, nodes, 7) {
+        Judged::Fine(x, next) => Field {
+            value: x,
+            next: next,
+        },
+        Judged::Wrong(why) => return HeaderRead::Fault(why),
+    };
+    let target = match judged_at(sheet, source.next, nodes, 7) {
+        Judged::Fine(x, next) => Field {
+            value: x,
+            next: next,
+        },
+        Judged::Wrong(why) => return HeaderRead::Fault(why),
+    };
+    if target.value == source.value {
+        return HeaderRead::Fault(7);
+    }
+    match judged_at(sheet, target.next, LIMIT_END, 8) {
+        Judged::Fine(limit, next) => {
+            let header = Header {
+                nodes: nodes as usize,
+                arcs: arcs as usize,
+                source: source.value as usize,
+                target: target.value as usize,
+                limit: limit,
+            };
+            HeaderRead::Five(header, next)
+        }
+        Judged::Wrong(why) => HeaderRead::Fault(why),
+    }
+}
+
 // Reads the five numbers in front.
 pub fn header_of(sheet: &[u8]) -> HeaderRead
     ensures { λ r. ⌜ headerIn (now (sheet .entry)) r ≡ readHeader (now (sheet .entry)) ⌝ }
@@ -80,44 +120,11 @@ pub fn header_of(sheet: &[u8]) -> HeaderRead
         },
         Judged::Wrong(why) => return HeaderRead::Fault(why),
     };
-    if nodes.value < 2 {
+    if nodes.value < NODES_LEAST {
         return HeaderRead::Fault(5);
     }
-    let arcs = match judged_at(sheet, nodes.next, ARCS_END, 6) {
-        Judged::Fine(x, next) => Field {
-            value: x,
-            next: next,
-        },
-        Judged::Wrong(why) => return HeaderRead::Fault(why),
-    };
-    let source = match judged_at(sheet, arcs.next, nodes.value, 7) {
-        Judged::Fine(x, next) => Field {
-            value: x,
-            next: next,
-        },
-        Judged::Wrong(why) => return HeaderRead::Fault(why),
-    };
-    let target = match judged_at(sheet, source.next, nodes.value, 7) {
-        Judged::Fine(x, next) => Field {
-            value: x,
-            next: next,
-        },
-        Judged::Wrong(why) => return HeaderRead::Fault(why),
-    };
-    if target.value == source.value {
-        return HeaderRead::Fault(7);
-    }
-    match judged_at(sheet, target.next, LIMIT_END, 8) {
-        Judged::Fine(x, next) => HeaderRead::Five(
-            Header {
-                nodes: nodes.value as usize,
-                arcs: arcs.value as usize,
-                source: source.value as usize,
-                target: target.value as usize,
-                limit: x,
-            },
-            next,
-        ),
+    match judged_at(sheet, nodes.next, ARCS_END, 6) {
+        Judged::Fine(arcs, next) => header_ends(sheet, next, nodes.value, arcs),
         Judged::Wrong(why) => HeaderRead::Fault(why),
     }
 }
@@ -151,7 +158,7 @@ fn arc_at(sheet: &[u8], at: usize, nodes: u32) -> ArcRead
 
 // Reads the arcs at the front of `section` and stores tail, head and minutes of each over the front of `arcs`.
 pub fn arcs_in(section: &[u8], nodes: u32, count: usize, arcs: &mut [u32]) -> Section
-    requires { ⌜ (count ≤ 512) × (1536 ≤ length (now arcs)) ⌝ }
+    requires { ⌜ 3 * count ≤ length (now arcs) ⌝ }
     ensures { λ r. ⌜ sectionOf (now (section .entry)) (begun (readArc nodes) count (now (section .entry))) r ≡ several (readArc nodes) count (now (section .entry)) ⌝ }
     ensures { λ _. ⌜ now (arcs .exit) ≡ front (flat (begun (readArc nodes) count (now (section .entry)))) (now (arcs .entry)) ⌝ }
 {
