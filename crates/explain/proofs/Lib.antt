@@ -1,2 +1,4 @@
 pub mod OpenedLaws
 pub mod ReasonLaws
+pub mod SameLaws
+pub mod ListingLaws
