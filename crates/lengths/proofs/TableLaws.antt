@@ -1,30 +1,35 @@
 -- The table over sets of goals: what its entries say, and what a store keeps. Assumes nothing.
 use Prim.Native.Nat.{ℕ, _+_, _*_, _-_, _%_, _^_, _≤_, _<_}
-use mathlib.Core.Path.{_≡_, refl, sym, _∙_}
+use mathlib.Core.Path.{_≡_, refl, sym, ap, _∙_}
 use mathlib.Core.Logic.{_≢_}
 use mathlib.Core.List.{List, [], _∷_}
 use mathlib.Core.Bool.{true, false, true≢false}
 use native.Mathlib.Omega.{arith}
 use native.Mathlib.Numerals.{add-one}
 use native.Mathlib.Nat.{pow-le-pow-right}
-use lib.ListN.{length, getD, set}
-use lib.Seq.{getD-set-same, getD-set-other}
+use lib.ListN.{length, getD, set, take}
+use lib.Seq.{getD-set-same, getD-set-other, getD-take, take-set-le, drop-set-lt}
 use lib.Count.{ones}
 use borrow.Author.Count.{below-more}
+use Rattle.rows.proofs.ArcLaws.{item-at}
+use Rattle.rows.proofs.HeldLaws.{is-held, high}
+use Rattle.rows.specs.Held.{missing, held}
+use Rattle.rows.specs.Net.{Net, graph, closed}
 use Rattle.walks.specs.Goals.{entryOf, exitOf, ownOf, lastly}
 use Rattle.walks.specs.Graph.{least}
 use Rattle.walks.specs.Lengths.{Least, none, some, plus, lesser}
-use Rattle.lengths.proofs.ArcLaws.{item-at}
-use Rattle.lengths.proofs.HeldLaws.{is-held, high}
 use Rattle.lengths.proofs.SetLaws.{but-less, chosen-count, last-in}
-use Rattle.lengths.specs.Held.{missing, held}
 use Rattle.lengths.specs.Sets.{has, chosen, given, past, anyIn}
-use Rattle.lengths.specs.Table.{Net, graph, closed, GoalsFit, Filled, FilledTo, Asked}
+use Rattle.lengths.specs.Table.{Filled, FilledTo, Asked, TableFits, TableOnly}
 
 pub lesser-none : (r : Least) → lesser r none ≡ r
 unfolding lesser
 lesser-none none = refl
 lesser-none (some k) = refl
+
+-- an entry of a front that is as it was
+pub same-front : (n : ℕ) (u v : List ℕ) → take n v ≡ take n u → (k : ℕ) → k < n → getD v k 0 ≡ getD u k 0
+same-front n u v e k h = sym (getD-take n v k 0 h) ∙ ap (λ (l : List ℕ). getD l k 0) e ∙ getD-take n u k 0 h
 
 -- a set of at most 8 goals is a number below 256
 pub set-small : (k S : ℕ) → k ≤ 8 → S < 2 ^ k → S < 256
@@ -39,7 +44,7 @@ module _ {N : Net} {cap a : ℕ} {goals : List ℕ} {k S v : ℕ} {work : List �
   pub reach-none : ones S ≡ 0 → getD work v 0 ≡ held cap (least (graph N) (closed N) (chosen goals S) a v)
   reach-none e =
       let z : chosen goals S ≡ [] = empty-chosen (chosen goals S) (chosen-count goals S (rw (K .counted) (K .few)) ∙ e) in
-      rw z (K .first v (K .node))
+      rw z (K .rowed .first v (K .node))
 
   -- one goal more looked at
   pub reach-more : (i r t : ℕ) → i < k → r ≡ held cap (anyIn (graph N) (closed N) a v goals S i)
@@ -50,7 +55,7 @@ module _ {N : Net} {cap a : ℕ} {goals : List ℕ} {k S v : ℕ} {work : List �
   reach-more i r t h e f =
       let h′ : i < length goals = rw (K .counted) h in
       rw add-one (f (past (graph N) (closed N) a goals S i) (least (graph N) (closed N) [] (exitOf (graph N) (getD goals i 0)) v) (anyIn (graph N) (closed N) a v goals S i)
-      (K .set i h′) (K .rows i h′ v (K .node)) e)
+      (K .set i h′) (K .rowed .rows i h′ v (K .node)) e)
 
   pub reach-done : (r : ℕ) → (ones S ≡ 0 → ⊥) → r ≡ held cap (anyIn (graph N) (closed N) a v goals S k)
       → r ≡ held cap (least (graph N) (closed N) (chosen goals S) a v)
@@ -63,14 +68,13 @@ unfolding anyIn
 any-begun N cap a v S goals = is-held (high tt)
 
 -- what reach is asked for the goals before the last one
-pub asked-before : {N : Net} {cap a : ℕ} {goals : List ℕ} {S : ℕ} {work : List ℕ} → Filled N cap a goals S work → GoalsFit N goals → (i v : ℕ) → has S i ≡ true
-    → S < 2 ^ length goals → v < N .nodes → Asked N cap a goals (length goals) (S - 2 ^ i) v work
-asked-before {S = S} F g i v e s h = record {
-  fit = g;
-  first = F .first;
-  rows = F .rows;
+pub asked-before : {N : Net} {cap a : ℕ} {goals : List ℕ} {S : ℕ} {work : List ℕ} → Filled N cap a goals S work → (k i v : ℕ) → length goals ≡ k → has S i ≡ true
+    → S < 2 ^ k → v < N .nodes → Asked N cap a goals k (S - 2 ^ i) v work
+asked-before {S = S} F k i v q e s h = record {
+  fit = F .fit;
+  rowed = F .rowed;
   set = F .sets (S - 2 ^ i) (but-less S i e);
-  counted = refl;
+  counted = q;
   few = omega (arith, but-less S i e);
   node = h;
 }
@@ -79,32 +83,45 @@ pub shifted : (i : ℕ) → i ≤ 8 → 1 * 2 ^ i % 4294967296 ≡ 2 ^ i
 shifted i h = let p : 2 ^ i ≤ 2 ^ 8 = pow-le-pow-right (omega arith) h in omega arith
 
 -- the length past goal i: to its entry by reach, then the goal itself
-pub past-is : {N : Net} {cap a : ℕ} {goals : List ℕ} {S : ℕ} {work : List ℕ} → Filled N cap a goals S work → GoalsFit N goals
-    → (i b v before own r : ℕ) → has S i ≡ true → S < 2 ^ length goals → b ≡ 2 ^ i → v ≡ entryOf (graph N) (getD goals i 0) → v < N .nodes
-    → ((N : Net) (a : ℕ) (goals′ : List ℕ) → Asked N cap a goals′ (length goals) (S - b) v work → before ≡ held cap (least (graph N) (closed N) (chosen goals′ (S - b)) a v))
-    → own ≡ held cap (ownOf (graph N) (closed N) (getD goals i 0))
-    → ((p q : Least) → before ≡ held cap p → own ≡ held cap q → r ≡ held cap (plus p q)) → r ≡ held cap (past (graph N) (closed N) a goals S i)
+pub past-is : {N : Net} {cap a : ℕ} {goals : List ℕ} {S : ℕ} {work : List ℕ} → Filled N cap a goals S work
+    → (k i b before r : ℕ) → length goals ≡ k → i < k → has S i ≡ true → S < 2 ^ k → b ≡ 2 ^ i
+    → ((N : Net) (a : ℕ) (goals′ : List ℕ) → Asked N cap a goals′ k (S - b) (getD work (576 + i) 0) work
+    → before ≡ held cap (least (graph N) (closed N) (chosen goals′ (S - b)) a (getD work (576 + i) 0)))
+    → ((p q : Least) → before ≡ held cap p → getD work (584 + i) 0 ≡ held cap q → r ≡ held cap (plus p q)) → r ≡ held cap (past (graph N) (closed N) a goals S i)
 unfolding past
-past-is {N} {cap} {a} {goals} {S} {work} F g i b v before own r e s qb qv h reach o sum =
-    sum (least (graph N) (closed N) (chosen goals (S - 2 ^ i)) a (entryOf (graph N) (getD goals i 0))) (ownOf (graph N) (closed N) (getD goals i 0)) (rw (qb, qv) at (reach N a goals K)) o
+past-is {N} {cap} {a} {goals} {S} {work} F k i b before r q h e s qb reach sum =
+    sum (least (graph N) (closed N) (chosen goals (S - 2 ^ i)) a (entryOf (graph N) (getD goals i 0))) (ownOf (graph N) (closed N) (getD goals i 0))
+    (rw (qb, F .noted .entries i h′) at (reach N a goals K)) (F .noted .owns i h′)
   where
-    K : Asked N cap a goals (length goals) (S - b) v work
-    K = rw qb (asked-before F g i v e s h)
+    h′ : i < length goals
+    h′ = omega arith
+
+    K : Asked N cap a goals k (S - b) (getD work (576 + i) 0) work
+    K = rw qb (asked-before F k i (getD work (576 + i) 0) q e s (F .inside i h′))
 
 -- goal i is not in the set: nothing to store
 pub put-none : {N : Net} {cap a : ℕ} {goals : List ℕ} {S i : ℕ} {work : List ℕ} → has S i ≡ false → FilledTo N cap a goals S i work → FilledTo N cap a goals S (i + 1) work
 put-none {i = i} e F = record { filled = F .filled; set = below-more _ i (F .set) (λ q. absurd (true≢false (sym q ∙ e))) }
 
 -- the entry of the set and goal i is stored, and all other entries are as they were
-pub put-one : {N : Net} {cap a : ℕ} {goals : List ℕ} {S i : ℕ} {work : List ℕ} (x : ℕ) → N .nodes ≤ 64 → GoalsFit N goals → S < 256 → i < length goals → length work ≡ 16384
+pub put-one : {N : Net} {cap a : ℕ} {goals : List ℕ} {S i : ℕ} {work : List ℕ} (x : ℕ) → S < 256 → i < length goals → 3072 ≤ length work
     → x ≡ held cap (past (graph N) (closed N) a goals S i) → FilledTo N cap a goals S i work → FilledTo N cap a goals S (i + 1) (set work (1024 + S * 8 + i) x)
-put-one {N} {cap} {a} {goals} {S} {i} {work} x few g s h l e F = record {
+put-one {N} {cap} {a} {goals} {S} {i} {work} x s h l e F = record {
   filled = record {
-    first = λ v hv. other v (λ q. omega arith) ∙ F .filled .first v hv;
-    rows = λ j hj v hv. other (64 + j * 64 + v) (λ q. omega (arith, g .eight)) ∙ F .filled .rows j hj v hv;
-    sets = λ T hT j hj q. other (1024 + T * 8 + j) (λ q. omega (arith, g .eight)) ∙ F .filled .sets T hT j hj q;
+    small = F .filled .small;
+    fit = F .filled .fit;
+    rowed = record {
+      first = λ v hv. other v (λ q. omega (arith, F .filled .small)) ∙ F .filled .rowed .first v hv;
+      rows = λ j hj v hv. other (64 + j * 64 + v) (λ q. omega (arith, F .filled .fit .eight, F .filled .small)) ∙ F .filled .rowed .rows j hj v hv;
+    };
+    noted = record {
+      entries = λ j hj. other (576 + j) (λ q. omega (arith, F .filled .fit .eight)) ∙ F .filled .noted .entries j hj;
+      owns = λ j hj. other (584 + j) (λ q. omega (arith, F .filled .fit .eight)) ∙ F .filled .noted .owns j hj;
+    };
+    inside = λ j hj. rw (other (576 + j) (λ q. omega (arith, F .filled .fit .eight))) (F .filled .inside j hj);
+    sets = λ T hT j hj q. other (1024 + T * 8 + j) (λ q. omega (arith, F .filled .fit .eight)) ∙ F .filled .sets T hT j hj q;
   };
-  set = below-more _ i (λ j hj q. other (1024 + S * 8 + j) (λ q. omega arith) ∙ F .set j hj q) (λ q. getD-set-same work at x 0 (omega (arith, g .eight)) ∙ e);
+  set = below-more _ i (λ j hj q. other (1024 + S * 8 + j) (λ q. omega arith) ∙ F .set j hj q) (λ q. getD-set-same work at x 0 (omega (arith, F .filled .fit .eight)) ∙ e);
 }
   where
     at : ℕ
@@ -118,7 +135,28 @@ set-begun F = record { filled = F; set = λ j hj. absurd (omega arith) }
 
 pub set-done : {N : Net} {cap a : ℕ} {goals : List ℕ} {S i : ℕ} {work : List ℕ} → i ≡ length goals → FilledTo N cap a goals S i work → Filled N cap a goals (S + 1) work
 set-done {S = S} q F = record {
-  first = F .filled .first;
-  rows = F .filled .rows;
+  small = F .filled .small;
+  fit = F .filled .fit;
+  rowed = F .filled .rowed;
+  noted = F .filled .noted;
+  inside = F .filled .inside;
   sets = below-more _ S (F .filled .sets) (rw q at (F .set));
+}
+
+-- only the table is touched
+pub only-same : (work : List ℕ) → TableOnly work work
+only-same work = record { front = refl; behind = refl }
+
+pub only-put : (work : List ℕ) (S i x : ℕ) → S < 256 → i < 8 → TableOnly work (set work (1024 + S * 8 + i) x)
+only-put work S i x s h = record { front = take-set-le 1024 work (1024 + S * 8 + i) x (omega arith); behind = drop-set-lt 3072 work (1024 + S * 8 + i) x (omega arith) }
+
+pub only-then : {u v w : List ℕ} → TableOnly u v → TableOnly v w → TableOnly u w
+only-then p q = record { front = q .front ∙ p .front; behind = q .behind ∙ p .behind }
+
+-- what fits the work still fits it
+pub table-fits : {k : ℕ} {u v : List ℕ} → TableFits k u → TableOnly u v → length v ≡ length u → TableFits k v
+table-fits {k} {u} {v} T o l = record {
+  long = rw l (T .long);
+  eight = T .eight;
+  entries = λ i h. rw (same-front 1024 u v (o .front) (576 + i) (omega (arith, T .eight))) (T .entries i h);
 }

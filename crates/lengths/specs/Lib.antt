@@ -1,3 +1,2 @@
-pub mod Held
 pub mod Sets
 pub mod Table

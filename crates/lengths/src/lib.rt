@@ -1,161 +1,64 @@
 ghost use mathlib.Core.Path.{_≡_};
-ghost use mathlib.Core.Bool.{Bool, true, false};
-ghost use mathlib.Core.List.{List, _++_};
-ghost use Prim.Native.Nat.{ℕ, _+_, _*_, _/_, _^_, _≤_, _<_};
-ghost use lib.ListN.{length, getD, replicate, drop};
+ghost use mathlib.Core.Bool.{true};
+ghost use mathlib.Core.List.{List};
+ghost use Prim.Native.Nat.{ℕ, _+_, _*_, _^_, _≤_, _<_};
+ghost use lib.ListN.{length, getD, take, drop};
 ghost use Rattle.walks.specs.Lengths.{Least, plus, lesser as lesserOf};
 ghost use Rattle.walks.specs.Graph.{least as leastOf, closedIn};
 ghost use Rattle.walks.specs.Goals.{entryOf, exitOf, ownOf};
 ghost use Rattle.walks.specs.Flat.{graphOf};
-ghost use Rattle.lengths.specs.Held.{missing, code, atMost, held};
+ghost use Rattle.rows.specs.Held.{missing, code, atMost, held};
+ghost use Rattle.rows.specs.Net.{Net, netOf, graph, closed, arcCount, Proper, Joins};
 ghost use Rattle.lengths.specs.Sets.{has as hasOf, chosen, given, past as pastOf};
-ghost use Rattle.lengths.specs.Table.{Proper, netOf, graph, closed, count, Net, RowIs, RowTo, TurnedTo, GoalsFit, Filled, FilledTo, Asked, Relaxed, ArcTried, Settled, Swept, Sound, Keeps};
+ghost use Rattle.lengths.specs.Table.{GoalsFit, StartsAre, Rowed, Noted, Filled, FilledTo, Asked, TableFits, TableOnly};
 
 const MISSING: u32 = 0xFFFF_FFFF;
 
-// Stores `v` in each entry.
-fn fill(row: &mut [u32], v: u32)
-    ensures { λ _. ⌜ now (row .exit) ≡ replicate (length (now (row .entry))) v ⌝ }
-{
-    let mut i = 0;
-    while i < row.len() {
-        row[i] = v;
-        i += 1;
-    }
-}
+// The mark of a forbidden item.
+const FORBIDDEN: u8 = 2;
 
-// Cuts the entry at `to` where the way over `from` is shorter and at most `cap`.
-fn relax(row: &mut [u32], from: usize, to: usize, weight: u32, cap: u32) -> bool
-    requires { ⌜ (from < length (now row)) × (to < length (now row)) ⌝ }
-    ensures { λ r. ⌜ Relaxed cap (now (row .entry)) from to weight (now (row .exit)) r ⌝ }
-{
-    let d = row[from];
-    if d > cap {
-        return false;
-    }
-    if weight > cap - d {
-        return false;
-    }
-    let t = d + weight;
-    if t < row[to] {
-        row[to] = t;
-        return true;
-    }
-    false
-}
+// The most numbers that the arcs take, three each.
+const ARC_NUMBERS: usize = 1536;
 
-// Tries arc `i`, where it and its head are open.
-fn try_arc(nodes: usize, arcs: &[u32], marks: &[u8], row: &mut [u32], i: usize, cap: u32) -> bool
-    requires { ⌜ Proper (netOf nodes (now arcs) (now marks)) ⌝ }
-    requires { ⌜ (length (now row) ≡ 64) × (i < count (netOf nodes (now arcs) (now marks))) ⌝ }
-    ensures { λ r. ⌜ ArcTried (netOf nodes (now (arcs .entry)) (now (marks .entry))) cap (now (row .entry)) i (now (row .exit)) r ⌝ }
-{
-    let head = arcs[i * 3 + 1] as usize;
-    if marks[nodes + i] == 2 {
-        return false;
-    }
-    if marks[head] == 2 {
-        return false;
-    }
-    relax(row, arcs[i * 3] as usize, head, arcs[i * 3 + 2], cap)
-}
+// The most goals, and the most rows: from the source and from where each goal is left.
+const GOALS: usize = 8;
 
-// Tries each arc once. False: no arc can cut an entry any more.
-fn sweep(nodes: usize, arcs: &[u32], marks: &[u8], row: &mut [u32], cap: u32) -> bool
-    requires { ⌜ Proper (netOf nodes (now arcs) (now marks)) ⌝ }
-    requires { ⌜ length (now row) ≡ 64 ⌝ }
-    ensures { λ r. ⌜ Keeps (netOf nodes (now (arcs .entry)) (now (marks .entry))) cap (now (row .entry)) (now (row .exit)) ⌝ }
-    ensures { λ r. ⌜ Swept (netOf nodes (now (arcs .entry)) (now (marks .entry))) cap (now (row .entry)) (count (netOf nodes (now (arcs .entry)) (now (marks .entry)))) (now (row .exit)) r ⌝ }
-{
-    let mut changed = false;
-    let mut i = 0;
-    let m = arcs.len() / 3;
-    while i < m {
-        changed = changed | try_arc(nodes, arcs, marks, row, i, cap);
-        i += 1;
-    }
-    changed
-}
+const ROWS: usize = 9;
 
-// Tries the arcs until none can cut an entry.
-fn settle(nodes: usize, arcs: &[u32], marks: &[u8], row: &mut [u32], cap: u32)
-    requires { ⌜ Proper (netOf nodes (now arcs) (now marks)) ⌝ }
-    requires { ⌜ length (now row) ≡ 64 ⌝ }
-    ensures { λ _. ⌜ Keeps (netOf nodes (now (arcs .entry)) (now (marks .entry))) cap (now (row .entry)) (now (row .exit)) ⌝ }
-    ensures { λ _. ⌜ Settled (netOf nodes (now (arcs .entry)) (now (marks .entry))) cap (count (netOf nodes (now (arcs .entry)) (now (marks .entry)))) (now (row .exit)) ⌝ }
-{
-    while sweep(nodes, arcs, marks, row, cap) {}
-}
+// Where things lie in the work: the rows of 64 numbers each from 0 on, the row of the first goal from GOAL_ROWS on, the node where each goal is
+// entered, each goal's own length, and the table, an entry for each set of goals and goal just reached.
+const ROW_LENGTH: usize = 64;
 
-// Leaves in `row` the least length from `from` to each node, clear of the items whose mark is 2; MISSING above `cap`.
-// The row comes in sound: each entry MISSING or the length of such a walk. So is a row made when more items were closed.
-pub fn again(nodes: usize, arcs: &[u32], marks: &[u8], from: usize, row: &mut [u32], cap: u32)
-    requires { ⌜ Proper (netOf nodes (now arcs) (now marks)) ⌝ }
-    requires { ⌜ (length (now row) ≡ 64) × (from < nodes) × (cap < missing) ⌝ }
-    requires { ⌜ Sound (netOf nodes (now arcs) (now marks)) cap from (now row) ⌝ }
-    ensures { λ _. ⌜ RowIs (netOf nodes (now (arcs .entry)) (now (marks .entry))) cap from (now (row .exit)) ⌝ }
-{
-    if marks[from] != 2 {
-        row[from] = 0;
-    }
-    settle(nodes, arcs, marks, row, cap);
-}
+const GOAL_ROWS: usize = 64;
 
-// The same for a row that holds anything.
-pub fn lengths(nodes: usize, arcs: &[u32], marks: &[u8], from: usize, row: &mut [u32], cap: u32)
-    requires { ⌜ Proper (netOf nodes (now arcs) (now marks)) ⌝ }
-    requires { ⌜ (length (now row) ≡ 64) × (from < nodes) × (cap < missing) ⌝ }
-    ensures { λ _. ⌜ RowIs (netOf nodes (now (arcs .entry)) (now (marks .entry))) cap from (now (row .exit)) ⌝ }
-{
-    fill(row, MISSING);
-    again(nodes, arcs, marks, from, row, cap);
-}
+const ENTRIES: usize = 576;
 
-// The arcs with tail and head exchanged.
-fn turned(arcs: &[u32]) -> [u32; 1536]
-    requires { ⌜ length (now arcs) ≤ 1536 ⌝ }
-    ensures { λ r. ⌜ (length r ≡ 1536) × TurnedTo (length (now (arcs .entry)) / 3) (now (arcs .entry)) r ⌝ }
-{
-    let mut back = [0u32; 1536];
-    let m = arcs.len() / 3;
-    let mut i = 0;
-    while i < m {
-        let at = i * 3;
-        back[at] = arcs[at + 1];
-        back[at + 1] = arcs[at];
-        back[at + 2] = arcs[at + 2];
-        i += 1;
-    }
-    back
-}
+const OWN_LENGTHS: usize = 584;
 
-// Leaves in `row` the least length from each node to `to`, clear of the items whose mark is 2; MISSING above `cap`.
-pub fn lengths_to(nodes: usize, arcs: &[u32], marks: &[u8], to: usize, row: &mut [u32], cap: u32)
-    requires { ⌜ Proper (netOf nodes (now arcs) (now marks)) × (length (now arcs) ≤ 1536) ⌝ }
-    requires { ⌜ (length (now row) ≡ 64) × (to < nodes) × (cap < missing) ⌝ }
-    ensures { λ _. ⌜ RowTo (netOf nodes (now (arcs .entry)) (now (marks .entry))) cap to (now (row .exit)) ⌝ }
-{
-    let back = turned(arcs);
-    let n = arcs.len();
-    lengths(nodes, &back[..n], marks, to, row, cap);
+const TABLE: usize = 1024;
+
+// What a least length is asked for: a walk from `from` to `to` in a graph of `nodes` nodes, of length at most `cap`.
+pub struct Query {
+    pub nodes: usize,
+    pub from: usize,
+    pub to: usize,
+    pub cap: u32,
 }
 
 // The node where a walk comes to goal `g`.
-fn entry(nodes: usize, arcs: &[u32], marks: &[u8], g: usize) -> usize
-    requires { ⌜ Proper (netOf nodes (now arcs) (now marks)) ⌝ }
-    requires { ⌜ g < nodes + count (netOf nodes (now arcs) (now marks)) ⌝ }
+fn entry(nodes: usize, arcs: &[u32], g: usize) -> u32
+    requires { ⌜ Joins nodes (now arcs) × (nodes ≤ 64) × (g < nodes + arcCount (now arcs)) ⌝ }
     ensures { λ r. ⌜ (r ≡ entryOf (graphOf nodes (now (arcs .entry))) g) × (r < nodes) ⌝ }
 {
     if g < nodes {
-        return g;
+        return g as u32;
     }
-    arcs[(g - nodes) * 3] as usize
+    arcs[(g - nodes) * 3]
 }
 
 // The node where a walk leaves goal `g`.
-fn exit(nodes: usize, arcs: &[u32], marks: &[u8], g: usize) -> usize
-    requires { ⌜ Proper (netOf nodes (now arcs) (now marks)) ⌝ }
-    requires { ⌜ g < nodes + count (netOf nodes (now arcs) (now marks)) ⌝ }
+fn exit(nodes: usize, arcs: &[u32], g: usize) -> usize
+    requires { ⌜ Joins nodes (now arcs) × (g < nodes + arcCount (now arcs)) ⌝ }
     ensures { λ r. ⌜ (r ≡ exitOf (graphOf nodes (now (arcs .entry))) g) × (r < nodes) ⌝ }
 {
     if g < nodes {
@@ -166,14 +69,13 @@ fn exit(nodes: usize, arcs: &[u32], marks: &[u8], g: usize) -> usize
 
 // The length of goal `g` itself.
 fn own(nodes: usize, arcs: &[u32], marks: &[u8], g: usize, cap: u32) -> u32
-    requires { ⌜ Proper (netOf nodes (now arcs) (now marks)) ⌝ }
-    requires { ⌜ g < nodes + count (netOf nodes (now arcs) (now marks)) ⌝ }
-    ensures { λ r. ⌜ r ≡ held cap (ownOf (graphOf nodes (now (arcs .entry))) (closed (netOf nodes (now (arcs .entry)) (now (marks .entry)))) g) ⌝ }
+    requires { ⌜ Proper (netOf nodes (now arcs) (now marks)) × (g < nodes + arcCount (now arcs)) ⌝ }
+    ensures { λ r. ⌜ r ≡ held cap (ownOf (graphOf nodes (now (arcs .entry))) (closedIn (now (marks .entry))) g) ⌝ }
 {
     if g < nodes {
         return 0;
     }
-    if marks[g] == 2 {
+    if marks[g] == FORBIDDEN {
         return MISSING;
     }
     let weight = arcs[(g - nodes) * 3 + 2];
@@ -223,15 +125,50 @@ fn has(set: u32, i: usize) -> bool
     (set >> i) % 2 == 1
 }
 
+// Writes where the rows start: at `from`, and where each goal is left.
+pub fn set_starts(nodes: usize, arcs: &[u32], from: usize, goals: &[usize], starts: &mut [usize])
+    requires { ⌜ Joins nodes (now arcs) × (length (now goals) < length (now starts)) × (from < nodes) ⌝ }
+    requires { ⌜ ((i : ℕ) → i < length (now goals) → getD (now goals) i 0 < nodes + arcCount (now arcs)) ⌝ }
+    ensures { λ _. ⌜ StartsAre (graphOf nodes (now (arcs .entry))) from (now (goals .entry)) (now (starts .exit)) ⌝ }
+{
+    starts[0] = from;
+    let mut i = 0;
+    while i < goals.len() {
+        starts[i + 1] = exit(nodes, arcs, goals[i]);
+        i += 1;
+    }
+}
+
+// Notes where each goal is entered, and its own length.
+pub fn note_goals(
+    nodes: usize,
+    arcs: &[u32],
+    marks: &[u8],
+    goals: &[usize],
+    work: &mut [u32],
+    cap: u32,
+)
+    requires { ⌜ Proper (netOf nodes (now arcs) (now marks)) × GoalsFit (netOf nodes (now arcs) (now marks)) (now goals) × (592 ≤ length (now work)) ⌝ }
+    ensures { λ _. ⌜ Noted (netOf nodes (now (arcs .entry)) (now (marks .entry))) cap (now (goals .entry)) (now (work .exit)) ⌝ }
+    ensures { λ _. ⌜ (take 576 (now (work .exit)) ≡ take 576 (now (work .entry))) × (drop 592 (now (work .exit)) ≡ drop 592 (now (work .entry))) ⌝ }
+{
+    let mut i = 0;
+    while i < goals.len() {
+        work[ENTRIES + i] = entry(nodes, arcs, goals[i]);
+        work[OWN_LENGTHS + i] = own(nodes, arcs, marks, goals[i], cap);
+        i += 1;
+    }
+}
+
 // The lesser of `r` and the way on to `v` from goal `i` as the last goal of the set.
 fn better(work: &[u32], set: u32, i: usize, v: usize, cap: u32, r: u32) -> u32
-    requires { ⌜ (length (now work) ≡ 16384) × (set < 256) × (i < 8) × (v < 64) × (cap < missing) ⌝ }
+    requires { ⌜ (3072 ≤ length (now work)) × (set < 256) × (i < 8) × (v < 64) × (cap < missing) ⌝ }
     ensures { λ t. ⌜ ((p q s : Least) → (hasOf set i ≡ true → getD (now (work .entry)) (1024 + set * 8 + i) 0 ≡ held cap p) → getD (now (work .entry)) (64 + i * 64 + v) 0 ≡ held cap q → r ≡ held cap s → t ≡ held cap (lesserOf s (given (hasOf set i) (plus p q)))) ⌝ }
 {
     if has(set, i) {
         let t = sum(
-            work[1024 + set as usize * 8 + i],
-            work[64 + i * 64 + v],
+            work[TABLE + set as usize * GOALS + i],
+            work[GOAL_ROWS + i * ROW_LENGTH + v],
             cap,
         );
         return lesser(r, t);
@@ -239,9 +176,9 @@ fn better(work: &[u32], set: u32, i: usize, v: usize, cap: u32, r: u32) -> u32
     r
 }
 
-// The least length from the source to `v` that meets the goals of the set.
+// The least length from the source to `v` that meets the goals of the set. How many goals a set holds is the number of ones in its mark.
 fn reach(work: &[u32], count: usize, set: u32, v: usize, cap: u32) -> u32
-    requires { ⌜ (length (now work) ≡ 16384) × (count ≤ 8) × (set < 256) × (v < 64) × (cap < missing) ⌝ }
+    requires { ⌜ (3072 ≤ length (now work)) × (count ≤ 8) × (set < 256) × (v < 64) × (cap < missing) ⌝ }
     ensures { λ r. ⌜ ((N : Net) (a : ℕ) (goals : List ℕ) → Asked N cap a goals count set v (now (work .entry)) → r ≡ held cap (leastOf (graph N) (closed N) (chosen goals set) a v)) ⌝ }
 {
     if u32::count_ones(set) == 0 {
@@ -257,135 +194,92 @@ fn reach(work: &[u32], count: usize, set: u32, v: usize, cap: u32) -> u32
 }
 
 // The length past goal `i` as the last goal of the set.
-fn past(
-    nodes: usize,
-    arcs: &[u32],
-    marks: &[u8],
-    goals: &[usize],
-    work: &[u32],
-    set: u32,
-    i: usize,
-    cap: u32,
-) -> u32
-    requires { ⌜ Proper (netOf nodes (now arcs) (now marks)) × GoalsFit (netOf nodes (now arcs) (now marks)) (now goals) ⌝ }
-    requires { ⌜ (length (now work) ≡ 16384) × (set < 2 ^ length (now goals)) × (i < length (now goals)) × (hasOf set i ≡ true) × (cap < missing) ⌝ }
-    ensures { λ r. ⌜ ((a : ℕ) → Filled (netOf nodes (now (arcs .entry)) (now (marks .entry))) cap a (now (goals .entry)) set (now (work .entry)) → r ≡ held cap (pastOf (graph (netOf nodes (now (arcs .entry)) (now (marks .entry)))) (closed (netOf nodes (now (arcs .entry)) (now (marks .entry)))) a (now (goals .entry)) set i)) ⌝ }
+fn past(work: &[u32], count: usize, set: u32, i: usize, cap: u32) -> u32
+    requires { ⌜ TableFits count (now work) × (set < 2 ^ count) × (i < count) × (hasOf set i ≡ true) × (cap < missing) ⌝ }
+    ensures { λ r. ⌜ ((N : Net) (a : ℕ) (goals : List ℕ) → length goals ≡ count → Filled N cap a goals set (now (work .entry)) → r ≡ held cap (pastOf (graph N) (closed N) a goals set i)) ⌝ }
 {
-    let g = goals[i];
     let rest = set - bit(i);
-    let before = reach(work, goals.len(), rest, entry(nodes, arcs, marks, g), cap);
-    sum(before, own(nodes, arcs, marks, g, cap), cap)
+    let at = work[ENTRIES + i] as usize;
+    let before = reach(work, count, rest, at, cap);
+    sum(before, work[OWN_LENGTHS + i], cap)
 }
 
 // Fills the table's entry for goal `i` as the last goal of the set, if it is in the set.
-fn put(
-    nodes: usize,
-    arcs: &[u32],
-    marks: &[u8],
-    goals: &[usize],
-    work: &mut [u32],
-    set: u32,
-    i: usize,
-    cap: u32,
-)
-    requires { ⌜ Proper (netOf nodes (now arcs) (now marks)) × GoalsFit (netOf nodes (now arcs) (now marks)) (now goals) ⌝ }
-    requires { ⌜ (length (now work) ≡ 16384) × (set < 2 ^ length (now goals)) × (i < length (now goals)) × (cap < missing) ⌝ }
-    ensures { λ _. ⌜ ((a : ℕ) → FilledTo (netOf nodes (now (arcs .entry)) (now (marks .entry))) cap a (now (goals .entry)) set i (now (work .entry)) → FilledTo (netOf nodes (now (arcs .entry)) (now (marks .entry))) cap a (now (goals .entry)) set (i + 1) (now (work .exit))) ⌝ }
+fn put(work: &mut [u32], count: usize, set: u32, i: usize, cap: u32)
+    requires { ⌜ TableFits count (now work) × (set < 2 ^ count) × (i < count) × (cap < missing) ⌝ }
+    ensures { λ _. ⌜ ((N : Net) (a : ℕ) (goals : List ℕ) → length goals ≡ count → FilledTo N cap a goals set i (now (work .entry)) → FilledTo N cap a goals set (i + 1) (now (work .exit))) ⌝ }
+    ensures { λ _. ⌜ TableOnly (now (work .entry)) (now (work .exit)) ⌝ }
 {
     if has(set, i) {
-        let x = past(nodes, arcs, marks, goals, work, set, i, cap);
-        work[1024 + set as usize * 8 + i] = x;
+        let x = past(work, count, set, i, cap);
+        work[TABLE + set as usize * GOALS + i] = x;
     }
 }
 
 // Fills the table's entries for a set.
-fn fill_set(
-    nodes: usize,
-    arcs: &[u32],
-    marks: &[u8],
-    goals: &[usize],
-    work: &mut [u32],
-    set: u32,
-    cap: u32,
-)
-    requires { ⌜ Proper (netOf nodes (now arcs) (now marks)) × GoalsFit (netOf nodes (now arcs) (now marks)) (now goals) ⌝ }
-    requires { ⌜ (length (now work) ≡ 16384) × (set < 2 ^ length (now goals)) × (cap < missing) ⌝ }
-    ensures { λ _. ⌜ ((a : ℕ) → Filled (netOf nodes (now (arcs .entry)) (now (marks .entry))) cap a (now (goals .entry)) set (now (work .entry)) → Filled (netOf nodes (now (arcs .entry)) (now (marks .entry))) cap a (now (goals .entry)) (set + 1) (now (work .exit))) ⌝ }
+fn fill_set(work: &mut [u32], count: usize, set: u32, cap: u32)
+    requires { ⌜ TableFits count (now work) × (set < 2 ^ count) × (cap < missing) ⌝ }
+    ensures { λ _. ⌜ ((N : Net) (a : ℕ) (goals : List ℕ) → length goals ≡ count → Filled N cap a goals set (now (work .entry)) → Filled N cap a goals (set + 1) (now (work .exit))) ⌝ }
+    ensures { λ _. ⌜ TableOnly (now (work .entry)) (now (work .exit)) ⌝ }
 {
     let mut i = 0;
-    while i < goals.len() {
-        put(nodes, arcs, marks, goals, work, set, i, cap);
+    while i < count {
+        put(work, count, set, i, cap);
         i += 1;
     }
 }
 
-// Fills the table for all sets of goals, the smaller numbers first.
-fn fill_table(nodes: usize, arcs: &[u32], marks: &[u8], goals: &[usize], work: &mut [u32], cap: u32)
-    requires { ⌜ Proper (netOf nodes (now arcs) (now marks)) × GoalsFit (netOf nodes (now arcs) (now marks)) (now goals) ⌝ }
-    requires { ⌜ (length (now work) ≡ 16384) × (cap < missing) ⌝ }
-    ensures { λ _. ⌜ ((a : ℕ) → Filled (netOf nodes (now (arcs .entry)) (now (marks .entry))) cap a (now (goals .entry)) 0 (now (work .entry)) → Filled (netOf nodes (now (arcs .entry)) (now (marks .entry))) cap a (now (goals .entry)) (2 ^ length (now (goals .entry))) (now (work .exit))) ⌝ }
+// Fills the table for all sets of goals, the smaller numbers first (document 01: Algorithm 1, a row's set including the goal just reached).
+pub fn fill_table(work: &mut [u32], count: usize, cap: u32)
+    requires { ⌜ TableFits count (now work) × (cap < missing) ⌝ }
+    ensures { λ _. ⌜ ((N : Net) (a : ℕ) (goals : List ℕ) → length goals ≡ count → Filled N cap a goals 0 (now (work .entry)) → Filled N cap a goals (2 ^ count) (now (work .exit))) ⌝ }
+    ensures { λ _. ⌜ TableOnly (now (work .entry)) (now (work .exit)) ⌝ }
 {
-    let end = bit(goals.len());
+    let end = bit(count);
     let mut set: u32 = 0;
     while set < end {
-        fill_set(nodes, arcs, marks, goals, work, set, cap);
+        fill_set(work, count, set, cap);
         set += 1;
     }
 }
 
-// Fills the row of each goal: the lengths from where the goal is left.
-fn fill_rows(nodes: usize, arcs: &[u32], marks: &[u8], goals: &[usize], work: &mut [u32], cap: u32)
-    requires { ⌜ Proper (netOf nodes (now arcs) (now marks)) × GoalsFit (netOf nodes (now arcs) (now marks)) (now goals) ⌝ }
-    requires { ⌜ (length (now work) ≡ 16384) × (cap < missing) ⌝ }
-    ensures { λ _. ⌜ ((a : ℕ) → RowIs (netOf nodes (now (arcs .entry)) (now (marks .entry))) cap a (now (work .entry)) → Filled (netOf nodes (now (arcs .entry)) (now (marks .entry))) cap a (now (goals .entry)) 0 (now (work .exit))) ⌝ }
+// The least length from the source to `to` that meets all goals, once the table is filled.
+pub fn reach_goals(work: &[u32], count: usize, to: usize, cap: u32) -> u32
+    requires { ⌜ (3072 ≤ length (now work)) × (count ≤ 8) × (to < 64) × (cap < missing) ⌝ }
+    ensures { λ r. ⌜ ((N : Net) (a : ℕ) (goals : List ℕ) → length goals ≡ count → to < N .nodes → Filled N cap a goals (2 ^ count) (now (work .entry)) → r ≡ held cap (leastOf (graph N) (closed N) goals a to)) ⌝ }
 {
-    let mut i = 0;
-    while i < goals.len() {
-        let from = exit(nodes, arcs, marks, goals[i]);
-        let at = 64 + i * 64;
-        lengths(nodes, arcs, marks, from, &mut work[at..at + 64], cap);
-        i += 1;
-    }
-}
-
-// The same as `least`, in work of 16384 numbers.
-fn search(
-    nodes: usize,
-    arcs: &[u32],
-    marks: &[u8],
-    goals: &[usize],
-    from: usize,
-    to: usize,
-    cap: u32,
-    work: &mut [u32],
-) -> u32
-    requires { ⌜ Proper (netOf nodes (now arcs) (now marks)) × GoalsFit (netOf nodes (now arcs) (now marks)) (now goals) ⌝ }
-    requires { ⌜ (length (now work) ≡ 16384) × (from < nodes) × (to < nodes) × (cap < missing) ⌝ }
-    ensures { λ r. ⌜ r ≡ held cap (leastOf (graph (netOf nodes (now (arcs .entry)) (now (marks .entry)))) (closed (netOf nodes (now (arcs .entry)) (now (marks .entry)))) (now (goals .entry)) from to) ⌝ }
-{
-    lengths(nodes, arcs, marks, from, &mut work[0..64], cap);
-    fill_rows(nodes, arcs, marks, goals, work, cap);
-    fill_table(nodes, arcs, marks, goals, work, cap);
-    let count = goals.len();
     reach(work, count, bit(count) - 1, to, cap)
 }
 
-// The least length of a walk from `from` to `to`, clear of the items whose mark is 2, that meets all goals; MISSING
-// where there is none of at most `cap`. The first 16384 numbers of `work` are overwritten, the rest stays.
-pub fn least(
-    nodes: usize,
-    arcs: &[u32],
-    marks: &[u8],
-    goals: &[usize],
-    from: usize,
-    to: usize,
-    cap: u32,
-    work: &mut [u32],
-) -> u32
-    requires { ⌜ Proper (netOf nodes (now arcs) (now marks)) × GoalsFit (netOf nodes (now arcs) (now marks)) (now goals) ⌝ }
-    requires { ⌜ (16384 ≤ length (now work)) × (from < nodes) × (to < nodes) × (cap < missing) ⌝ }
-    ensures { λ r. ⌜ r ≡ code (atMost cap (leastOf (graphOf nodes (now (arcs .entry))) (closedIn (now (marks .entry))) (now (goals .entry)) from to)) ⌝ }
-    ensures { λ _. ⌜ drop 16384 (now (work .exit)) ≡ drop 16384 (now (work .entry)) ⌝ }
+// Fills the rows: from the source, and from where each goal is left.
+fn start_rows(q: Query, arcs: &[u32], marks: &[u8], goals: &[usize], work: &mut [u32])
+    requires { ⌜ Proper (netOf (q .nodes) (now arcs) (now marks)) × GoalsFit (netOf (q .nodes) (now arcs) (now marks)) (now goals) × (length (now arcs) ≤ 1536) ⌝ }
+    requires { ⌜ (3072 ≤ length (now work)) × (q .from < q .nodes) × (q .cap < missing) ⌝ }
+    ensures { λ _. ⌜ Rowed (netOf (q .nodes) (now (arcs .entry)) (now (marks .entry))) (q .cap) (q .from) (now (goals .entry)) (now (work .exit)) ⌝ }
+    ensures { λ _. ⌜ drop 576 (now (work .exit)) ≡ drop 576 (now (work .entry)) ⌝ }
 {
-    search(nodes, arcs, marks, goals, from, to, cap, &mut work[..16384])
+    let mut packed = [0u32; ARC_NUMBERS];
+    let n = rows::pack(q.nodes, arcs, marks, &mut packed);
+    let mut starts = [0usize; ROWS];
+    set_starts(q.nodes, arcs, q.from, goals, &mut starts);
+    let count = goals.len() + 1;
+    rows::fill_rows(&packed[..n], marks, &starts[..count], work, q.cap);
+}
+
+// The least length of a walk from `from` to `to`, clear of the forbidden items, that meets all goals; MISSING where there is none of at most
+// `cap`. The first 3072 numbers of the work are overwritten, the rest stays.
+pub fn least(q: Query, arcs: &[u32], marks: &[u8], goals: &[usize], work: &mut [u32]) -> u32
+    requires { ⌜ Proper (netOf (q .nodes) (now arcs) (now marks)) × GoalsFit (netOf (q .nodes) (now arcs) (now marks)) (now goals) × (length (now arcs) ≤ 1536) ⌝ }
+    requires { ⌜ (3072 ≤ length (now work)) × (q .from < q .nodes) × (q .to < q .nodes) × (q .cap < missing) ⌝ }
+    ensures { λ r. ⌜ r ≡ code (atMost (q .cap) (leastOf (graphOf (q .nodes) (now (arcs .entry))) (closedIn (now (marks .entry))) (now (goals .entry)) (q .from) (q .to))) ⌝ }
+    ensures { λ _. ⌜ drop 3072 (now (work .exit)) ≡ drop 3072 (now (work .entry)) ⌝ }
+{
+    let count = goals.len();
+    let nodes = q.nodes;
+    let to = q.to;
+    let cap = q.cap;
+    start_rows(q, arcs, marks, goals, work);
+    note_goals(nodes, arcs, marks, goals, work, cap);
+    fill_table(work, count, cap);
+    reach_goals(work, count, to, cap)
 }

@@ -1,15 +1,19 @@
 -- `lengths::entry` meets its contract. Assumes nothing.
-use Prim.Native.Nat.{_-_, _*_}
+use Prim.Native.Nat.{_-_}
 use mathlib.Core.Path.{sym}
+use mathlib.Core.List.{[]}
 use native.Mathlib.Omega.{arith}
 use denote.Ref.{now}
 use Rattle.walks.proofs.GoalLaws.{entry-node}
 use Rattle.walks.specs.Flat.{graphOf}
-use Rattle.lengths.proofs.ArcLaws.{entry-at}
-use Rattle.lengths.specs.Table.{netOf}
+use Rattle.rows.proofs.ArcLaws.{entry-at}
+use Rattle.rows.specs.Net.{netOf}
 use borrow.Author.Needs.{needs}
 use Rattle.lengths.proofs.entry.Statement.{statement}
 use Rattle.lengths.proofs.entry.Tie as tie
+
+cast-result : tie.Need-cast-result
+cast-result c = search needs
 
 returns : tie.Need-returns
 returns c =
@@ -25,17 +29,12 @@ mul-result-2 c = search needs
 shared-slice-read-result : tie.Need-shared-slice-read-result
 shared-slice-read-result c = search needs
 
-cast-result : tie.Need-cast-result
-cast-result c = omega (arith, c .shared-slice-known .given ((c .before .before .args .g - c .before .before .args .nodes) * 3))
-
 returns-2 : tie.Need-returns-2
 returns-2 c =
-    let s = c .before .before in (
-      entry-at (netOf (s .args .nodes) (now (s .args .arcs)) (now (s .args .marks))) (s .args .g) (c .before .if1 .left) (s .pre .1),
-      s .pre .0 .tails (s .args .g - s .args .nodes) (omega arith),
-    )
+    let s = c .before .before in
+    (entry-at (netOf (s .args .nodes) (now (s .args .arcs)) []) (s .args .g) (c .before .if1 .left) (s .pre .2), s .pre .0 (s .args .g - s .args .nodes) (omega arith) .0)
 
 pub entry-spec : {M : Type 1} → statement M
 entry-spec =
     tie.close
-    (tie.spec returns mul-result mul-result-2 shared-slice-read-result cast-result returns-2)
+    (tie.spec cast-result returns mul-result mul-result-2 shared-slice-read-result returns-2)

@@ -1,12 +1,13 @@
 -- `lengths::exit` meets its contract. Assumes nothing.
 use Prim.Native.Nat.{_+_, _-_, _*_}
 use mathlib.Core.Path.{sym}
+use mathlib.Core.List.{[]}
 use native.Mathlib.Omega.{arith}
 use denote.Ref.{now}
 use Rattle.walks.proofs.GoalLaws.{exit-node}
 use Rattle.walks.specs.Flat.{graphOf}
-use Rattle.lengths.proofs.ArcLaws.{exit-at}
-use Rattle.lengths.specs.Table.{netOf}
+use Rattle.rows.proofs.ArcLaws.{exit-at}
+use Rattle.rows.specs.Net.{netOf}
 use borrow.Author.Needs.{needs}
 use Rattle.lengths.proofs.exit.Statement.{statement}
 use Rattle.lengths.proofs.exit.Tie as tie
@@ -33,10 +34,8 @@ cast-result c = omega (arith, c .shared-slice-known .given ((c .before .before .
 
 returns-2 : tie.Need-returns-2
 returns-2 c =
-    let s = c .before .before in (
-      exit-at (netOf (s .args .nodes) (now (s .args .arcs)) (now (s .args .marks))) (s .args .g) (c .before .if1 .left) (s .pre .1),
-      s .pre .0 .heads (s .args .g - s .args .nodes) (omega arith),
-    )
+    let s = c .before .before in
+    (exit-at (netOf (s .args .nodes) (now (s .args .arcs)) []) (s .args .g) (c .before .if1 .left) (s .pre .1), s .pre .0 (s .args .g - s .args .nodes) (omega arith) .1)
 
 pub exit-spec : {M : Type 1} → statement M
 exit-spec =

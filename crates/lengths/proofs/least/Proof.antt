@@ -1,39 +1,53 @@
 -- `lengths::least` meets its contract. Assumes nothing.
-use lib.ListN.{drop}
-use mathlib.Core.Path.{sym, _∙_}
-use lib.Seq.{length-take-le, drop-at}
-use Rattle.lengths.specs.Held.{held}
+use mathlib.Core.Path.{refl, _∙_}
+use native.Mathlib.Omega.{arith}
+use Rattle.rows.specs.Held.{held}
+use Rattle.rows.specs.Net.{netOf}
+use Rattle.lengths.proofs.PartLaws.{table-room, filled-begun, rowed-kept, drop-further}
 use borrow.Author.Needs.{needs}
 use Rattle.lengths.proofs.least.Statement.{statement}
 use Rattle.lengths.proofs.least.Tie as tie
 
-slice-relend-prefix-search : tie.Need-slice-relend-prefix-search
-slice-relend-prefix-search c = search needs
+start-rows-requires : tie.Need-start-rows-requires
+start-rows-requires c κs = search needs
 
-slice-aggregate-search : tie.Need-slice-aggregate-search
-slice-aggregate-search c = sym (length-take-le 16384 (c .before .before .before .before .before .args .work .now) (c .before .before .before .before .before .pre .1 .0))
+note-goals-requires : tie.Need-note-goals-requires
+note-goals-requires c κs = search needs
 
-search-requires : tie.Need-search-requires
-search-requires c κs =
-    let s = c .before .before .before .before .before in
-    (s .pre .0, (length-take-le 16384 (s .args .work .now) (s .pre .1 .0), s .pre .1 .1, s .pre .1 .2, s .pre .1 .3))
+fill-table-requires : tie.Need-fill-table-requires
+fill-table-requires c κs =
+    let s = c .before .before .before .before .before .before .before .before .before .before .before .before .before in
+    let n = c .before .before .before .note-goals in
+    (table-room (s .pre .0 .0) (s .pre .0 .1) (omega (arith, n .kept .1 .1 .1 .1 .0, c .before .before .before .before .before .before .before .start-rows .kept .1 .1 .1 .1 .0, s .pre .1 .0)) (n .ensures .0), s .pre .1 .3)
+
+reach-goals-requires : tie.Need-reach-goals-requires
+reach-goals-requires c κs = search needs
 
 same-length : tie.Need-same-length
 same-length c = search needs
 
 returns : tie.Need-returns
 unfolding held
-returns c = let s = c .before .before .before .before .before .before .before .before in
-    let t = c .before .before .search in
-    let l = t .kept .1 .1 .1 .1 .1 .1 .1 .0 ∙ length-take-le 16384 (s .args .work .now) (s .pre .1 .0) in
-    (t .ensures, drop-at (t .last .1 .1 .1 .1 .1 .1 .1 .0) (drop 16384 (s .args .work .now)) 16384 l)
+returns c =
+    let s = c .before .before .before .before .before .before .before .before .before .before .before .before .before .before .before .before .before .before in
+    let r = c .before .before .before .before .before .before .before .before .before .before .before .before .start-rows in
+    let n = c .before .before .before .before .before .before .before .before .note-goals in
+    let f = c .before .before .before .before .fill-table in
+    let N = netOf (s .args .q .nodes) (s .args .arcs .now) (s .args .marks .now) in
+    let goals = s .args .goals .now in
+    let F = filled-begun (s .pre .0 .0) (s .pre .0 .1) (rowed-kept (s .pre .0 .0 .few) (s .pre .0 .1 .eight) (n .ensures .1 .0) (r .ensures .0)) (n .ensures .0) in (
+      c .reach-goals .ensures N (s .args .q .from) goals refl (s .pre .1 .2) (f .ensures .0 N (s .args .q .from) goals refl F),
+      f .ensures .1 .behind ∙ drop-further 592 3072 (n .last .1 .1 .1 .1 .0) (r .last .1 .1 .1 .1 .0) (omega arith) (n .ensures .1 .1)
+          ∙ drop-further 576 3072 (r .last .1 .1 .1 .1 .0) (s .args .work .now) (omega arith) (r .ensures .1),
+    )
 
 pub least-spec : {M : Type 1} → statement M
 least-spec =
     tie.close
     (tie.spec
-    slice-relend-prefix-search
-    slice-aggregate-search
-    search-requires
+    start-rows-requires
+    note-goals-requires
+    fill-table-requires
+    reach-goals-requires
     same-length
     returns)

@@ -1,5 +1,5 @@
 -- `lengths::lesser` meets its contract. Assumes nothing.
-use Rattle.lengths.proofs.HeldLaws.{holds, is-held, lesser-first, lesser-second}
+use Rattle.rows.proofs.HeldLaws.{holds, is-held, lesser-first, lesser-second}
 use Rattle.lengths.proofs.lesser.Statement.{statement}
 use Rattle.lengths.proofs.lesser.Tie as tie
 

@@ -3,10 +3,9 @@ use native.Mathlib.Omega.{arith}
 use denote.Ref.{now}
 use borrow.Author.Tests.{eq-eqb, ne-eqb}
 use Rattle.walks.proofs.GoalLaws.{own-node}
-use Rattle.walks.specs.Flat.{graphOf}
-use Rattle.lengths.proofs.ArcLaws.{own-at, own-shut-at}
-use Rattle.lengths.proofs.HeldLaws.{low, high, is-held, above-none}
-use Rattle.lengths.specs.Table.{netOf, closed}
+use Rattle.rows.proofs.ArcLaws.{own-at, own-shut-at}
+use Rattle.rows.proofs.HeldLaws.{low, high, is-held, above-none}
+use Rattle.rows.specs.Net.{netOf, graph, closed}
 use borrow.Author.Needs.{needs}
 use Rattle.lengths.proofs.own.Statement.{statement}
 use Rattle.lengths.proofs.own.Tie as tie
@@ -15,7 +14,7 @@ returns : tie.Need-returns
 returns c =
     let s = c .before in
     let N = netOf (s .args .nodes) (now (s .args .arcs)) (now (s .args .marks)) in
-    is-held (low (omega arith) (own-node (graphOf (s .args .nodes) (now (s .args .arcs))) (closed N) (s .args .g) (c .if1 .taken)))
+    is-held (low (omega arith) (own-node (graph N) (closed N) (s .args .g) (c .if1 .taken)))
 
 shared-slice-read-if2 : tie.Need-shared-slice-read-if2
 shared-slice-read-if2 c = search needs

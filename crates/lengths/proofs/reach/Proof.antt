@@ -4,9 +4,10 @@ use mathlib.Core.List.{List}
 use Prim.Native.Nat.{ℕ, _-_, _≤_}
 use native.Mathlib.Omega.{arith}
 use Rattle.lengths.proofs.TableLaws.{reach-none, reach-more, reach-done, any-begun}
-use Rattle.lengths.specs.Held.{held}
+use Rattle.rows.specs.Held.{held}
 use Rattle.lengths.specs.Sets.{anyIn}
-use Rattle.lengths.specs.Table.{Net, graph, closed, Asked}
+use Rattle.rows.specs.Net.{Net, graph, closed}
+use Rattle.lengths.specs.Table.{Asked}
 use Rattle.lengths.proofs.reach.Statement.{statement}
 use Rattle.lengths.proofs.reach.Tie as tie
 

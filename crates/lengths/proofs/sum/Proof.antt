@@ -1,6 +1,6 @@
 -- `lengths::sum` meets its contract. Assumes nothing.
 use native.Mathlib.Omega.{arith}
-use Rattle.lengths.proofs.HeldLaws.{holds, is-held, sum-over, sum-both, sum-low}
+use Rattle.rows.proofs.HeldLaws.{holds, is-held, sum-over, sum-both, sum-low}
 use borrow.Author.Needs.{needs}
 use Rattle.lengths.proofs.sum.Statement.{statement}
 use Rattle.lengths.proofs.sum.Tie as tie

@@ -1,0 +1,7 @@
+pub mod HeldLaws
+pub mod ArcLaws
+pub mod OpenLaws
+pub mod RowLaws
+pub mod PackLaws
+pub mod TurnLaws
+pub mod WorkLaws

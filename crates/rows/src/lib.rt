@@ -1,0 +1,244 @@
+ghost use mathlib.Core.Path.{_≡_};
+ghost use Prim.Native.Nat.{ℕ, _+_, _*_, _≤_, _<_};
+ghost use lib.ListN.{length, replicate, take, drop};
+ghost use Rattle.rows.specs.Held.{missing};
+ghost use Rattle.rows.specs.Net.{Net, netOf, count, arcCount, tailIn, headIn, weightIn, Proper, Joins, PackedTo, Packed, TurnedTo};
+ghost use Rattle.rows.specs.Rows.{RowIs, RowTo, Sound, Relaxed, ArcTried, Swept, Round, Settled, Keeps, StartOf, StartsOf, StartsFit, RowsAre, RowsSound};
+
+// What a row holds where there is no way of at most the cap.
+pub const MISSING: u32 = 0xFFFF_FFFF;
+
+// The mark of a forbidden item.
+const FORBIDDEN: u8 = 2;
+
+// The most numbers that the arcs take, three each.
+const ARC_NUMBERS: usize = 1536;
+
+// The numbers of a row, one for each node.
+const ROW_LENGTH: usize = 64;
+
+// Puts arc `i` behind the `c` arcs that are packed, where it and its head are open.
+fn pack_arc(
+    nodes: usize,
+    arcs: &[u32],
+    marks: &[u8],
+    packed: &mut [u32],
+    i: usize,
+    c: usize,
+) -> usize
+    requires { ⌜ Proper (netOf nodes (now arcs) (now marks)) × (i < arcCount (now arcs)) × (c ≤ i) × (length (now arcs) ≤ length (now packed)) ⌝ }
+    ensures { λ r. ⌜ (r ≤ i + 1) × (PackedTo (netOf nodes (now (arcs .entry)) (now (marks .entry))) i (now (packed .entry)) c → PackedTo (netOf nodes (now (arcs .entry)) (now (marks .entry))) (i + 1) (now (packed .exit)) r) ⌝ }
+{
+    let at = i * 3;
+    let head = arcs[at + 1];
+    if marks[nodes + i] == FORBIDDEN {
+        return c;
+    }
+    if marks[head as usize] == FORBIDDEN {
+        return c;
+    }
+    let to = c * 3;
+    packed[to] = arcs[at];
+    packed[to + 1] = head;
+    packed[to + 2] = arcs[at + 2];
+    c + 1
+}
+
+// Writes the open arcs with an open head to the front of `packed` and gives how many numbers they take.
+pub fn pack(nodes: usize, arcs: &[u32], marks: &[u8], packed: &mut [u32]) -> usize
+    requires { ⌜ Proper (netOf nodes (now arcs) (now marks)) × (length (now arcs) ≤ length (now packed)) ⌝ }
+    ensures { λ r. ⌜ (r ≤ length (now (packed .exit))) × Packed (netOf nodes (now (arcs .entry)) (now (marks .entry))) (take r (now (packed .exit))) ⌝ }
+{
+    let m = arcs.len() / 3;
+    let mut c = 0;
+    let mut i = 0;
+    while i < m {
+        c = pack_arc(nodes, arcs, marks, packed, i, c);
+        i += 1;
+    }
+    c * 3
+}
+
+// Stores `v` in each entry.
+fn fill(row: &mut [u32], v: u32)
+    ensures { λ _. ⌜ now (row .exit) ≡ replicate (length (now (row .entry))) v ⌝ }
+{
+    let mut i = 0;
+    while i < row.len() {
+        row[i] = v;
+        i += 1;
+    }
+}
+
+// Cuts the entry at `to` where the way over `from` is shorter and at most `cap`.
+pub fn relax(row: &mut [u32], from: usize, to: usize, weight: u32, cap: u32) -> bool
+    requires { ⌜ (from < length (now row)) × (to < length (now row)) ⌝ }
+    ensures { λ r. ⌜ Relaxed cap (now (row .entry)) from to weight (now (row .exit)) r ⌝ }
+{
+    let d = row[from];
+    if d > cap {
+        return false;
+    }
+    if weight > cap - d {
+        return false;
+    }
+    let t = d + weight;
+    if t < row[to] {
+        row[to] = t;
+        return true;
+    }
+    false
+}
+
+// Tries arc `i` of the open arcs.
+fn try_arc(arcs: &[u32], row: &mut [u32], i: usize, cap: u32) -> bool
+    requires { ⌜ Joins 64 (now arcs) × (length (now row) ≡ 64) × (i < arcCount (now arcs)) ⌝ }
+    ensures { λ r. ⌜ ArcTried cap (now (arcs .entry)) (now (row .entry)) i (now (row .exit)) r ⌝ }
+{
+    let at = i * 3;
+    relax(
+        row,
+        arcs[at] as usize,
+        arcs[at + 1] as usize,
+        arcs[at + 2],
+        cap,
+    )
+}
+
+// Tries each arc once, in their order. False: no arc can cut an entry any more.
+fn sweep_up(arcs: &[u32], row: &mut [u32], cap: u32) -> bool
+    requires { ⌜ Joins 64 (now arcs) × (length (now row) ≡ 64) ⌝ }
+    ensures { λ _. ⌜ Keeps cap (now (arcs .entry)) (now (row .entry)) (now (row .exit)) ⌝ }
+    ensures { λ r. ⌜ Swept cap (now (arcs .entry)) (now (row .entry)) 0 (arcCount (now (arcs .entry))) (now (row .exit)) r ⌝ }
+{
+    let m = arcs.len() / 3;
+    let mut changed = false;
+    let mut i = 0;
+    while i < m {
+        changed = changed | try_arc(arcs, row, i, cap);
+        i += 1;
+    }
+    changed
+}
+
+// The same from the last arc to the first.
+fn sweep_down(arcs: &[u32], row: &mut [u32], cap: u32) -> bool
+    requires { ⌜ Joins 64 (now arcs) × (length (now row) ≡ 64) ⌝ }
+    ensures { λ _. ⌜ Keeps cap (now (arcs .entry)) (now (row .entry)) (now (row .exit)) ⌝ }
+    ensures { λ r. ⌜ Swept cap (now (arcs .entry)) (now (row .entry)) 0 (arcCount (now (arcs .entry))) (now (row .exit)) r ⌝ }
+{
+    let mut changed = false;
+    let mut i = arcs.len() / 3;
+    while i > 0 {
+        i -= 1;
+        changed = changed | try_arc(arcs, row, i, cap);
+    }
+    changed
+}
+
+// Up and down: a chain of arcs in either order takes one turn.
+fn sweep(arcs: &[u32], row: &mut [u32], cap: u32) -> bool
+    requires { ⌜ Joins 64 (now arcs) × (length (now row) ≡ 64) ⌝ }
+    ensures { λ _. ⌜ Keeps cap (now (arcs .entry)) (now (row .entry)) (now (row .exit)) ⌝ }
+    ensures { λ r. ⌜ Round cap (now (arcs .entry)) (now (row .entry)) (now (row .exit)) r ⌝ }
+{
+    if sweep_up(arcs, row, cap) {
+        return sweep_down(arcs, row, cap);
+    }
+    false
+}
+
+// Tries the arcs until none can cut an entry.
+fn settle(arcs: &[u32], row: &mut [u32], cap: u32)
+    requires { ⌜ Joins 64 (now arcs) × (length (now row) ≡ 64) ⌝ }
+    ensures { λ _. ⌜ Keeps cap (now (arcs .entry)) (now (row .entry)) (now (row .exit)) ⌝ }
+    ensures { λ _. ⌜ Settled cap (now (arcs .entry)) 0 (arcCount (now (arcs .entry))) (now (row .exit)) ⌝ }
+{
+    while sweep(arcs, row, cap) {}
+}
+
+// Leaves in `row` the least length from `from` to each node over the packed arcs; MISSING above `cap`.
+// The row comes in sound: each entry MISSING or the length of such a walk. So is a row made when more items were forbidden.
+pub fn settle_row(arcs: &[u32], marks: &[u8], from: usize, row: &mut [u32], cap: u32)
+    requires { ⌜ Joins 64 (now arcs) × (length (now row) ≡ 64) × (from < 64) × (from < length (now marks)) × (cap < missing) ⌝ }
+    ensures { λ _. ⌜ ((N : Net) → StartOf N (now (arcs .entry)) (now (marks .entry)) from → Sound N cap from (now (row .entry)) → RowIs N cap from (now (row .exit))) ⌝ }
+{
+    if marks[from] != FORBIDDEN {
+        row[from] = 0;
+    }
+    settle(arcs, row, cap);
+}
+
+// The same for a row that holds anything.
+fn fill_row(arcs: &[u32], marks: &[u8], from: usize, row: &mut [u32], cap: u32)
+    requires { ⌜ Joins 64 (now arcs) × (length (now row) ≡ 64) × (from < 64) × (from < length (now marks)) × (cap < missing) ⌝ }
+    ensures { λ _. ⌜ ((N : Net) → StartOf N (now (arcs .entry)) (now (marks .entry)) from → RowIs N cap from (now (row .exit))) ⌝ }
+{
+    fill(row, MISSING);
+    settle_row(arcs, marks, from, row, cap);
+}
+
+// Leaves in `row` the least length from `from` to each node, clear of the forbidden items; MISSING above `cap`.
+pub fn row_from(nodes: usize, arcs: &[u32], marks: &[u8], from: usize, row: &mut [u32], cap: u32)
+    requires { ⌜ Proper (netOf nodes (now arcs) (now marks)) × (length (now arcs) ≤ 1536) ⌝ }
+    requires { ⌜ (length (now row) ≡ 64) × (from < nodes) × (cap < missing) ⌝ }
+    ensures { λ _. ⌜ RowIs (netOf nodes (now (arcs .entry)) (now (marks .entry))) cap from (now (row .exit)) ⌝ }
+{
+    let mut packed = [0u32; ARC_NUMBERS];
+    let n = pack(nodes, arcs, marks, &mut packed);
+    fill_row(&packed[..n], marks, from, row, cap);
+}
+
+// The arcs with tail and head exchanged.
+fn turned(arcs: &[u32]) -> [u32; ARC_NUMBERS]
+    requires { ⌜ length (now arcs) ≤ 1536 ⌝ }
+    ensures { λ r. ⌜ (length r ≡ 1536) × TurnedTo (arcCount (now (arcs .entry))) (now (arcs .entry)) r ⌝ }
+{
+    let mut back = [0u32; ARC_NUMBERS];
+    let m = arcs.len() / 3;
+    let mut i = 0;
+    while i < m {
+        let at = i * 3;
+        back[at] = arcs[at + 1];
+        back[at + 1] = arcs[at];
+        back[at + 2] = arcs[at + 2];
+        i += 1;
+    }
+    back
+}
+
+// Leaves in `row` the least length from each node to `to`, clear of the forbidden items; MISSING above `cap`.
+pub fn row_to(nodes: usize, arcs: &[u32], marks: &[u8], to: usize, row: &mut [u32], cap: u32)
+    requires { ⌜ Proper (netOf nodes (now arcs) (now marks)) × (length (now arcs) ≤ 1536) ⌝ }
+    requires { ⌜ (length (now row) ≡ 64) × (to < nodes) × (cap < missing) ⌝ }
+    ensures { λ _. ⌜ RowTo (netOf nodes (now (arcs .entry)) (now (marks .entry))) cap to (now (row .exit)) ⌝ }
+{
+    let back = turned(arcs);
+    let n = arcs.len();
+    row_from(nodes, &back[..n], marks, to, row, cap);
+}
+
+// Settles the row of each start again, as `settle_row` does. Row `i` has the 64 numbers of the work from `i * 64` on.
+pub fn settle_rows(arcs: &[u32], marks: &[u8], starts: &[usize], work: &mut [u32], cap: u32)
+    requires { ⌜ Joins 64 (now arcs) × StartsFit (now marks) (now starts) (now work) × (cap < missing) ⌝ }
+    ensures { λ _. ⌜ ((N : Net) → StartsOf N (now (arcs .entry)) (now (marks .entry)) (now (starts .entry)) → RowsSound N cap (now (starts .entry)) (now (work .entry)) → RowsAre N cap (now (starts .entry)) (length (now (starts .entry))) (now (work .exit))) ⌝ }
+    ensures { λ _. ⌜ drop (length (now (starts .entry)) * 64) (now (work .exit)) ≡ drop (length (now (starts .entry)) * 64) (now (work .entry)) ⌝ }
+{
+    let mut i = 0;
+    while i < starts.len() {
+        let at = i * ROW_LENGTH;
+        settle_row(arcs, marks, starts[i], &mut work[at..at + ROW_LENGTH], cap);
+        i += 1;
+    }
+}
+
+// Fills the row of each start, whatever the work held.
+pub fn fill_rows(arcs: &[u32], marks: &[u8], starts: &[usize], work: &mut [u32], cap: u32)
+    requires { ⌜ Joins 64 (now arcs) × StartsFit (now marks) (now starts) (now work) × (cap < missing) ⌝ }
+    ensures { λ _. ⌜ ((N : Net) → StartsOf N (now (arcs .entry)) (now (marks .entry)) (now (starts .entry)) → RowsAre N cap (now (starts .entry)) (length (now (starts .entry))) (now (work .exit))) ⌝ }
+    ensures { λ _. ⌜ drop (length (now (starts .entry)) * 64) (now (work .exit)) ≡ drop (length (now (starts .entry)) * 64) (now (work .entry)) ⌝ }
+{
+    let n = starts.len() * ROW_LENGTH;
+    fill(&mut work[..n], MISSING);
+    settle_rows(arcs, marks, starts, work, cap);
+}
