@@ -1,4 +1,1 @@
-pub mod OpenedLaws
 pub mod ReasonLaws
-pub mod SameLaws
-pub mod ListingLaws

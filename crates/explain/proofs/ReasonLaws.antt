@@ -17,7 +17,7 @@ use Rattle.walks.specs.Graph.{Graph, itemCount, closedIn, fits}
 use Rattle.walks.specs.Walk.{SomeWalk, NoWalk}
 use Rattle.walks.proofs.FitsLaws.{Narrower, fits-some, fits-none, fits-mono, fits-anti}
 use Rattle.explain.specs.Reasons.{greedy, reasons, but}
-use Rattle.explain.proofs.OpenedLaws.{open-other, open-closed}
+use Rattle.walks.proofs.OpenedLaws.{open-other, open-closed}
 
 but-cases : (c : ℕ → Bool) (r j : ℕ) → but c r j ≡ true → (c j ≡ true) × (j ≡ r → ⊥)
 unfolding but

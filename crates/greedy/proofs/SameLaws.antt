@@ -17,8 +17,8 @@ use Rattle.walks.specs.Graph.{Graph, least}
 use Rattle.walks.specs.Goals.{entryOf, exitOf, ownOf, lastly, anyLast}
 use Rattle.walks.specs.Lengths.{Least, plus, lesser}
 use Rattle.walks.proofs.GoalLaws.{Includes, Item, others-without, last-goal}
-use Rattle.lengths.specs.Held.{missing, held}
-use Rattle.lengths.proofs.HeldLaws.{Held, holds, is-held, sum-over, sum-both, sum-low, lesser-first, lesser-second}
+use Rattle.rows.specs.Held.{missing, held}
+use Rattle.rows.proofs.HeldLaws.{Held, holds, is-held, sum-over, sum-both, sum-low, lesser-first, lesser-second}
 
 -- the same, where more than the cap counts as missing
 abbrev pub Same : ℕ → Least → Least → Type 0
