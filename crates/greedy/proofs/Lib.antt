@@ -1,2 +1,3 @@
 pub mod SameLaws
 pub mod ListingLaws
+pub mod TurnLaws

@@ -1,12 +1,28 @@
 ghost use mathlib.Core.Path.{_≡_};
-ghost use mathlib.Core.Bool.{false};
-ghost use Prim.Native.Nat.{ℕ, _≤_, _<_};
-ghost use lib.ListN.{length, getD};
+ghost use mathlib.Core.Bool.{Bool, true, false, not};
+ghost use mathlib.Core.List.{List};
+ghost use Prim.Native.Nat.{ℕ, _+_, _*_, _≤_, _<_};
+ghost use lib.ListN.{length, getD, take, drop, set};
+ghost use Rattle.lists.specs.Lists.{pick};
+ghost use Rattle.walks.specs.Flat.{graphOf};
+ghost use Rattle.walks.specs.Graph.{closedIn, fits};
+ghost use Rattle.rows.specs.Held.{missing};
+ghost use Rattle.rows.specs.Net.{netOf, arcCount, Proper, Packed};
+ghost use Rattle.lengths.specs.Table.{GoalsFit, Rowed, Noted};
+ghost use Rattle.greedy.specs.Turns.{Setting, fitsAt, Ready, Judged};
+use lengths::Query;
+use reopen::Opening;
+
+// The mark of a forbidden item.
+const FORBIDDEN: u8 = 2;
 
 // The most items that a graph has, nodes and arcs together.
 const MOST_ITEMS: usize = 576;
 
-// The marks in an array of its own, open past their end.
+// The numbers of a row.
+const ROW_LENGTH: usize = 64;
+
+// The marks in an array of their own, open past their end.
 fn copied(marks: &[u8]) -> [u8; MOST_ITEMS]
     requires { ⌜ length (now marks) ≤ 576 ⌝ }
     ensures { λ r. ⌜ (length r ≡ 576) × ((j : ℕ) → getD r j 0 ≡ getD (now (marks .entry)) j 0) ⌝ }
@@ -32,4 +48,82 @@ fn is_goal(goals: &[usize], item: usize) -> bool
         i += 1;
     }
     false
+}
+
+// Whether some walk meets the goals within the limit, by the rows in the work.
+fn fits_limit(q: Query, arcs: &[u32], marks: &[u8], goals: &[usize], work: &mut [u32]) -> bool
+    requires { ⌜ Proper (netOf (q .nodes) (now arcs) (now marks)) × GoalsFit (netOf (q .nodes) (now arcs) (now marks)) (now goals) ⌝ }
+    requires { ⌜ (3072 ≤ length (now work)) × (q .to < q .nodes) × (q .cap < missing) ⌝ }
+    ensures { λ r. ⌜ (Rowed (netOf (q .nodes) (now (arcs .entry)) (now (marks .entry))) (q .cap) (q .from) (now (goals .entry)) (now (work .entry)) → fits (graphOf (q .nodes) (now (arcs .entry))) (q .from) (q .to) (q .cap) (closedIn (now (marks .entry))) (now (goals .entry)) ≡ r) ⌝ }
+    ensures { λ _. ⌜ Noted (netOf (q .nodes) (now (arcs .entry)) (now (marks .entry))) (q .cap) (now (goals .entry)) (now (work .exit)) ⌝ }
+    ensures { λ _. ⌜ (take 576 (now (work .exit)) ≡ take 576 (now (work .entry))) × (drop 3072 (now (work .exit)) ≡ drop 3072 (now (work .entry))) ⌝ }
+{
+    let nodes = q.nodes;
+    let to = q.to;
+    let cap = q.cap;
+    let count = goals.len();
+    lengths::note_goals(nodes, arcs, marks, goals, work, cap);
+    lengths::fill_table(work, count, cap);
+    if lengths::reach_goals(work, count, to, cap) > cap {
+        return false;
+    }
+    true
+}
+
+// Whether no walk meets the goals within the limit. Where one does, the `rows` rows that were kept are put back.
+fn judge(
+    q: Query,
+    arcs: &[u32],
+    marks: &[u8],
+    goals: &[usize],
+    rows: usize,
+    work: &mut [u32],
+) -> bool
+    requires { ⌜ Proper (netOf (q .nodes) (now arcs) (now marks)) × GoalsFit (netOf (q .nodes) (now arcs) (now marks)) (now goals) ⌝ }
+    requires { ⌜ (length (now work) ≡ 3648) × (q .to < q .nodes) × (q .cap < missing) × (rows ≤ 9) ⌝ }
+    ensures { λ r. ⌜ (Rowed (netOf (q .nodes) (now (arcs .entry)) (now (marks .entry))) (q .cap) (q .from) (now (goals .entry)) (now (work .entry)) → fits (graphOf (q .nodes) (now (arcs .entry))) (q .from) (q .to) (q .cap) (closedIn (now (marks .entry))) (now (goals .entry)) ≡ not r) ⌝ }
+    ensures { λ r. ⌜ (r ≡ true → Noted (netOf (q .nodes) (now (arcs .entry)) (now (marks .entry))) (q .cap) (now (goals .entry)) (now (work .exit)) × (take 576 (now (work .exit)) ≡ take 576 (now (work .entry)))) ⌝ }
+    ensures { λ r. ⌜ (r ≡ false → (j : ℕ) → j < rows * 64 → getD (now (work .exit)) j 0 ≡ getD (now (work .entry)) (3072 + j) 0) ⌝ }
+{
+    if fits_limit(q, arcs, marks, goals, work) {
+        reopen::restore(work, rows * ROW_LENGTH);
+        return false;
+    }
+    true
+}
+
+// Whether no walk meets the goals within the limit once the item is opened, for the marks and the packed arcs with the item open. The rows are
+// then those of the marks, and else as they were.
+fn blocked(
+    o: Opening,
+    arcs: &[u32],
+    marks: &[u8],
+    packed: &[u32],
+    starts: &[usize],
+    goals: &[usize],
+    work: &mut [u32],
+) -> bool
+    requires { ⌜ Setting (o .nodes) (now arcs) (o .to) (o .cap) (now goals) (now starts) ⌝ }
+    requires { ⌜ (o .nodes + arcCount (now arcs) ≤ length (now marks)) × (o .item < o .nodes + arcCount (now arcs)) × (length (now work) ≡ 3648) × Packed (netOf (o .nodes) (now arcs) (now marks)) (now packed) × ((i : ℕ) → i < length (now goals) → getD (now work) (576 + i) 0 < 64) ⌝ }
+    requires { ⌜ (o .goal ≡ false → (i : ℕ) → i < length (now goals) → getD (now goals) i 0 ≡ o .item → ⊥) ⌝ }
+    ensures { λ r. ⌜ ((old : List ℕ) → now (marks .entry) ≡ set old (o .item) 0 → Ready (o .nodes) (now (arcs .entry)) old (o .cap) (now (goals .entry)) (now (starts .entry)) (now (work .entry)) → fitsAt (o .nodes) (now (arcs .entry)) (o .to) (o .cap) (now (goals .entry)) (now (starts .entry)) old ≡ false → Judged (o .nodes) (now (arcs .entry)) (o .to) (o .cap) (now (goals .entry)) (now (starts .entry)) old (now (marks .entry)) (now (work .exit)) r) ⌝ }
+{
+    let goal = o.goal;
+    let to = o.to;
+    let q = Query {
+        nodes: o.nodes,
+        from: starts[0],
+        to: o.to,
+        cap: o.cap,
+    };
+    if reopen::open_item(o, arcs, marks, packed, starts, work) {
+        if goal {
+            return judge(q, arcs, marks, goals, starts.len(), work);
+        }
+        if reopen::moved(work, starts.len(), goals.len(), to) {
+            return judge(q, arcs, marks, goals, starts.len(), work);
+        }
+        return true;
+    }
+    true
 }

@@ -12,7 +12,7 @@ use Rattle.walks.specs.Graph.{closedIn}
 use Rattle.rows.specs.Rows.{rowAt, RowIs, RowsAre, RowsSound, StartsOf}
 use Rattle.rows.proofs.OpenLaws.{sound-opens}
 use Rattle.rows.proofs.WorkLaws.{rows-sound}
-use Rattle.reopen.specs.Openings.{Untouched, ArcOpened, LinkOf, Opened, Reopened, ItemOpened}
+use Rattle.reopen.specs.Openings.{Untouched, ArcOpened, LinkOf, Opened, Beside, Reopened, ItemOpened}
 use Rattle.walks.proofs.OpenedLaws.{opens}
 use Rattle.reopen.proofs.ArcOpened.{proper-opened, arc-kept}
 use Rattle.reopen.proofs.PartLaws.{row-entry}
@@ -63,6 +63,11 @@ rows-kept {n} {xs} {old} {l} {marks} {ys} {starts} O L cap work small t R i h v 
     ∙ arc-kept (opened-arc O L) cap (getD starts i 0) (rowAt work i) small (λ x hx. row-entry work i x (omega arith) ∙ R i h x hx) (O .nodes i h)
     (λ o. t o i h) v hv
 
+-- what lies between the rows and where they are kept
+pub beside : (starts work kept after : List ℕ) → ((j : ℕ) → j < 3072 → getD kept j 0 ≡ getD work j 0)
+    → drop (length starts * 64) after ≡ drop (length starts * 64) kept → Beside starts work after
+beside starts work kept after f e j h k = behind (length starts * 64) after kept e j h ∙ f j k
+
 -- the rows are kept, then settled again
 module _ (n : ℕ) (xs old marks : List ℕ) (cap : ℕ) (starts work kept after : List ℕ) (few : n ≤ 64) (nine : length starts ≤ 9)
     (saved : ((j : ℕ) → j < length starts * 64 → getD kept (3072 + j) 0 ≡ getD work j 0) × ((j : ℕ) → j < 3072 → getD kept j 0 ≡ getD work j 0)) where
@@ -70,35 +75,35 @@ module _ (n : ℕ) (xs old marks : List ℕ) (cap : ℕ) (starts work kept after
   kept-rows = rows-same (netOf n xs old) cap starts (length starts) work kept few (λ j h. saved .1 j (omega arith))
 
   pub reopened : drop (length starts * 64) after ≡ drop (length starts * 64) kept → RowsAre (netOf n xs old) cap starts (length starts) work
-      → RowsAre (netOf n xs marks) cap starts (length starts) after → Reopened n xs old marks cap starts work after
+      → RowsAre (netOf n xs marks) cap starts (length starts) after → Reopened n xs old marks cap starts after
   reopened e R S = record {
     rows = S;
     kept =
         rows-same (netOf n xs old) cap starts (length starts) work (drop 3072 after) few
         (λ j h. getD-drop 3072 after j 0 ∙ behind (length starts * 64) after kept e (3072 + j) (omega arith) ∙ saved .0 j h) R;
-    beside = λ j h k. behind (length starts * 64) after kept e j h ∙ saved .1 j k;
   }
 
 -- what the code answers once the item is opened
 module _ (n : ℕ) (xs : List ℕ) (i cap : ℕ) (goal : Bool) (marks ys starts work : List ℕ) where
-  pub item-changed : (after : List ℕ)
+  pub item-changed : (after : List ℕ) → Beside starts work after
       → ((old : List ℕ) → Opened n xs old i marks ys starts → RowsAre (netOf n xs old) cap starts (length starts) work
-      → Reopened n xs old marks cap starts work after) → ItemOpened n xs i cap goal marks ys starts work after true
-  item-changed after f = record { changed = λ _. f; same = λ q. absurd (true≢false q); still = λ q. absurd (true≢false q) }
+      → Reopened n xs old marks cap starts after) → ItemOpened n xs i cap goal marks ys starts work after true
+  item-changed after b f = record { beside = b; changed = λ _. f; same = λ q. absurd (true≢false q); still = λ q. absurd (true≢false q) }
 
   module _ (u v w : ℕ) (arc : n ≤ i) (L : LinkOf xs (i - n) u v w) where
     as-arc : (old : List ℕ) → Opened n xs old i marks ys starts → Opened n xs old (n + (i - n)) marks ys starts
     as-arc old O = let q : n + (i - n) ≡ i = omega arith in rw q O
 
-    pub arc-changed : (after : List ℕ)
+    pub arc-changed : (after : List ℕ) → Beside starts work after
         → ((m l : ℕ) (zs old : List ℕ) → Opened m zs old (m + l) marks ys starts → LinkOf zs l u v w
-        → RowsAre (netOf m zs old) cap starts (length starts) work → Reopened m zs old marks cap starts work after)
+        → RowsAre (netOf m zs old) cap starts (length starts) work → Reopened m zs old marks cap starts after)
         → ItemOpened n xs i cap goal marks ys starts work after true
-    arc-changed after f = item-changed after (λ old O R. f n (i - n) xs old (as-arc old O) L R)
+    arc-changed after b f = item-changed after b (λ old O R. f n (i - n) xs old (as-arc old O) L R)
 
     pub arc-still : cap < missing → goal ≡ false → (closedIn marks v ≡ false → Untouched cap work (length starts) u v w)
         → ItemOpened n xs i cap goal marks ys starts work work false
     arc-still small g t = record {
+      beside = λ j h k. refl;
       changed = λ q. absurd (false≢true q);
       same = λ _. (g, refl);
       still = λ _ old O R. rows-kept (as-arc old O) L cap work small t R;

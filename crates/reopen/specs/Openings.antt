@@ -46,17 +46,21 @@ pub record Opened (n : ℕ) (xs old : List ℕ) (i : ℕ) (marks ys starts : Lis
   pub packed : Packed (netOf n xs marks) ys
   pub nodes : (j : ℕ) → j < length starts → getD starts j 0 < n
 
--- the rows hold the least lengths once the item is opened, those before are kept, and what lies between is as it was
-pub record Reopened (n : ℕ) (xs old marks : List ℕ) (cap : ℕ) (starts work after : List ℕ) : Type 0 where
+-- what lies between the rows and the kept ones is as it was
+abbrev pub Beside : List ℕ → List ℕ → List ℕ → Type 0
+Beside starts work after = (j : ℕ) → length starts * 64 ≤ j → j < 3072 → getD after j 0 ≡ getD work j 0
+
+-- the rows hold the least lengths once the item is opened, and those before are kept
+pub record Reopened (n : ℕ) (xs old marks : List ℕ) (cap : ℕ) (starts after : List ℕ) : Type 0 where
   pub rows : RowsAre (netOf n xs marks) cap starts (length starts) after
   pub kept : RowsAre (netOf n xs old) cap starts (length starts) (drop 3072 after)
-  pub beside : (j : ℕ) → length starts * 64 ≤ j → j < 3072 → getD after j 0 ≡ getD work j 0
 
 -- What opening item i does: the rows are settled again and those before are kept; or, where it is no goal, the rows hold the new least lengths as
 -- they are.
 pub record ItemOpened (n : ℕ) (xs : List ℕ) (i cap : ℕ) (goal : Bool) (marks ys starts work after : List ℕ) (r : Bool) : Type 0 where
+  pub beside : Beside starts work after
   pub changed : r ≡ true → (old : List ℕ) → Opened n xs old i marks ys starts → RowsAre (netOf n xs old) cap starts (length starts) work
-      → Reopened n xs old marks cap starts work after
+      → Reopened n xs old marks cap starts after
   pub same : r ≡ false → (goal ≡ false) × (after ≡ work)
   pub still : r ≡ false → (old : List ℕ) → Opened n xs old i marks ys starts → RowsAre (netOf n xs old) cap starts (length starts) work
       → RowsAre (netOf n xs marks) cap starts (length starts) work

@@ -7,7 +7,7 @@ ghost use Rattle.walks.specs.Graph.{closedIn};
 ghost use Rattle.rows.specs.Held.{missing};
 ghost use Rattle.rows.specs.Net.{netOf, arcCount, tailIn, headIn, weightIn, Proper, Joins, Packed};
 ghost use Rattle.rows.specs.Rows.{Tried, RowIs, RowsAre, StartsOf, StartsFit};
-ghost use Rattle.reopen.specs.Openings.{Untouched, Unmoved, UnmovedRow, LinkOf, ArcOpened, Opened, Reopened, ItemOpened};
+ghost use Rattle.reopen.specs.Openings.{Untouched, Unmoved, UnmovedRow, LinkOf, ArcOpened, Opened, Beside, Reopened, ItemOpened};
 
 // The mark of a forbidden item.
 const FORBIDDEN: u8 = 2;
@@ -230,7 +230,8 @@ fn settle_cut(packed: &[u32], marks: &[u8], starts: &[usize], work: &mut [u32], 
 // Keeps the rows and settles them again, once a node is opened.
 fn open_node(packed: &[u32], marks: &[u8], starts: &[usize], work: &mut [u32], cap: u32)
     requires { ⌜ Joins 64 (now packed) × StartsFit (now marks) (now starts) (now work) × (cap < missing) × (length (now starts) ≤ 9) × (length (now work) ≡ 3648) ⌝ }
-    ensures { λ _. ⌜ ((n i : ℕ) (xs old : List ℕ) → Opened n xs old i (now (marks .entry)) (now (packed .entry)) (now (starts .entry)) → RowsAre (netOf n xs old) cap (now (starts .entry)) (length (now (starts .entry))) (now (work .entry)) → Reopened n xs old (now (marks .entry)) cap (now (starts .entry)) (now (work .entry)) (now (work .exit))) ⌝ }
+    ensures { λ _. ⌜ ((n i : ℕ) (xs old : List ℕ) → Opened n xs old i (now (marks .entry)) (now (packed .entry)) (now (starts .entry)) → RowsAre (netOf n xs old) cap (now (starts .entry)) (length (now (starts .entry))) (now (work .entry)) → Reopened n xs old (now (marks .entry)) cap (now (starts .entry)) (now (work .exit))) ⌝ }
+    ensures { λ _. ⌜ Beside (now (starts .entry)) (now (work .entry)) (now (work .exit)) ⌝ }
 {
     save(work, starts.len() * ROW_LENGTH);
     rows::settle_rows(packed, marks, starts, work, cap);
@@ -240,7 +241,8 @@ fn open_node(packed: &[u32], marks: &[u8], starts: &[usize], work: &mut [u32], c
 fn open_arc(packed: &[u32], marks: &[u8], starts: &[usize], work: &mut [u32], arc: Link, cap: u32)
     requires { ⌜ Joins 64 (now packed) × StartsFit (now marks) (now starts) (now work) × (cap < missing) × (length (now starts) ≤ 9) × (length (now work) ≡ 3648) ⌝ }
     requires { ⌜ (arc .tail < 64) × (arc .head < 64) ⌝ }
-    ensures { λ _. ⌜ ((n l : ℕ) (xs old : List ℕ) → Opened n xs old (n + l) (now (marks .entry)) (now (packed .entry)) (now (starts .entry)) → LinkOf xs l (arc .tail) (arc .head) (arc .weight) → RowsAre (netOf n xs old) cap (now (starts .entry)) (length (now (starts .entry))) (now (work .entry)) → Reopened n xs old (now (marks .entry)) cap (now (starts .entry)) (now (work .entry)) (now (work .exit))) ⌝ }
+    ensures { λ _. ⌜ ((n l : ℕ) (xs old : List ℕ) → Opened n xs old (n + l) (now (marks .entry)) (now (packed .entry)) (now (starts .entry)) → LinkOf xs l (arc .tail) (arc .head) (arc .weight) → RowsAre (netOf n xs old) cap (now (starts .entry)) (length (now (starts .entry))) (now (work .entry)) → Reopened n xs old (now (marks .entry)) cap (now (starts .entry)) (now (work .exit))) ⌝ }
+    ensures { λ _. ⌜ Beside (now (starts .entry)) (now (work .entry)) (now (work .exit)) ⌝ }
 {
     save(work, starts.len() * ROW_LENGTH);
     settle_cut(packed, marks, starts, work, arc, cap);

@@ -5,7 +5,7 @@ use native.Mathlib.Omega.{arith}
 use borrow.Author.Needs.{needs}
 use lib.ListN.{length, getD, drop}
 use Rattle.rows.specs.Net.{netOf}
-use Rattle.reopen.proofs.RowsOpened.{kept-rows, reopened, opened-arc}
+use Rattle.reopen.proofs.RowsOpened.{kept-rows, beside, reopened, opened-arc}
 use Rattle.reopen.proofs.open_arc.Statement.{statement}
 use Rattle.reopen.proofs.open_arc.Tie as tie
 use Rattle.reopen.proofs.open_arc.Reads as reads
@@ -34,14 +34,17 @@ same-length : tie.Need-same-length
 same-length c = search needs
 
 returns : tie.Need-returns
-returns c n l xs old O L R =
+returns c =
     let s = c .before .before .before .before .before .before .before .before .before .before .before .before in
     let t = c .before .before .before .before .before .before .save in
     let r = c .before .before .settle-cut in
-    let kept = t .last .0 in
-    let K = kept-rows n xs old (s .args .marks .now) (s .args .cap) (s .args .starts .now) (s .args .work .now) kept (r .last .1 .1 .1 .0) (O .proper .few) (s .pre .0 .3) (t .ensures) R in
-    reopened n xs old (s .args .marks .now) (s .args .cap) (s .args .starts .now) (s .args .work .now) kept (r .last .1 .1 .1 .0) (O .proper .few) (s .pre .0 .3) (t .ensures) (r .ensures .1) R
-    (r .ensures .0 n l xs old (opened-arc O L) (O .nodes) K)
+    let kept = t .last .0 in (
+      λ n l xs old O L R.
+          let K = kept-rows n xs old (s .args .marks .now) (s .args .cap) (s .args .starts .now) (s .args .work .now) kept (r .last .1 .1 .1 .0) (O .proper .few) (s .pre .0 .3) (t .ensures) R in
+          reopened n xs old (s .args .marks .now) (s .args .cap) (s .args .starts .now) (s .args .work .now) kept (r .last .1 .1 .1 .0) (O .proper .few) (s .pre .0 .3) (t .ensures) (r .ensures .1) R
+          (r .ensures .0 n l xs old (opened-arc O L) (O .nodes) K),
+      beside (s .args .starts .now) (s .args .work .now) kept (r .last .1 .1 .1 .0) (t .ensures .1) (r .ensures .1),
+    )
 
 pub open-arc-spec : {M : Type 1} → statement M
 open-arc-spec = tie.close (tie.spec mul-save save-requires settle-cut-requires same-length returns)

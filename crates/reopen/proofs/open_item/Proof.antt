@@ -21,7 +21,7 @@ same-length : tie.Need-same-length
 same-length c = search needs
 
 returns : tie.Need-returns
-returns c = let s = c .before .before .before .before .before .before .before .before .before .before in item-changed (s .args .o .nodes) (s .args .arcs .now) (s .args .o .item) (s .args .o .cap) (s .args .o .goal) (s .args .marks .now) (s .args .packed .now) (s .args .starts .now) (s .args .work .now) _ (λ old. c .before .before .open-node .ensures (s .args .o .nodes) (s .args .o .item) (s .args .arcs .now) old)
+returns c = let s = c .before .before .before .before .before .before .before .before .before .before in item-changed (s .args .o .nodes) (s .args .arcs .now) (s .args .o .item) (s .args .o .cap) (s .args .o .goal) (s .args .marks .now) (s .args .packed .now) (s .args .starts .now) (s .args .work .now) _ (c .before .before .open-node .ensures .1) (λ old. c .before .before .open-node .ensures .0 (s .args .o .nodes) (s .args .o .item) (s .args .arcs .now) old)
 
 link-of-requires : tie.Need-link-of-requires
 link-of-requires c κs = search needs
@@ -41,7 +41,7 @@ same-length-2 : tie.Need-same-length-2
 same-length-2 c = search needs
 
 returns-2 : tie.Need-returns-2
-returns-2 c = let s = c .before .before .before .before .before .before .before .before .before .before .before .before in arc-changed (s .args .o .nodes) (s .args .arcs .now) (s .args .o .item) (s .args .o .cap) (s .args .o .goal) (s .args .marks .now) (s .args .packed .now) (s .args .starts .now) (s .args .work .now) (c .before .before .before .link-of .result .tail) (c .before .before .before .link-of .result .head) (c .before .before .before .link-of .result .weight) (omega arith) (c .before .before .before .link-of .ensures) _ (c .before .before .open-arc .ensures)
+returns-2 c = let s = c .before .before .before .before .before .before .before .before .before .before .before .before in arc-changed (s .args .o .nodes) (s .args .arcs .now) (s .args .o .item) (s .args .o .cap) (s .args .o .goal) (s .args .marks .now) (s .args .packed .now) (s .args .starts .now) (s .args .work .now) (c .before .before .before .link-of .result .tail) (c .before .before .before .link-of .result .head) (c .before .before .before .link-of .result .weight) (omega arith) (c .before .before .before .link-of .ensures) _ (c .before .before .open-arc .ensures .1) (c .before .before .open-arc .ensures .0)
 
 link-of-requires-2 : tie.Need-link-of-requires-2
 link-of-requires-2 c κs = search needs
@@ -86,7 +86,7 @@ same-length-4 : tie.Need-same-length-4
 same-length-4 c = search needs
 
 returns-4 : tie.Need-returns-4
-returns-4 c = let s = c .before .before .before .before .before .before .before .before .before .before .before .before .before .before .before .before in arc-changed (s .args .o .nodes) (s .args .arcs .now) (s .args .o .item) (s .args .o .cap) (s .args .o .goal) (s .args .marks .now) (s .args .packed .now) (s .args .starts .now) (s .args .work .now) (c .before .before .before .link-of3 .result .tail) (c .before .before .before .link-of3 .result .head) (c .before .before .before .link-of3 .result .weight) (omega arith) (c .before .before .before .link-of3 .ensures) _ (c .before .before .open-arc2 .ensures)
+returns-4 c = let s = c .before .before .before .before .before .before .before .before .before .before .before .before .before .before .before .before in arc-changed (s .args .o .nodes) (s .args .arcs .now) (s .args .o .item) (s .args .o .cap) (s .args .o .goal) (s .args .marks .now) (s .args .packed .now) (s .args .starts .now) (s .args .work .now) (c .before .before .before .link-of3 .result .tail) (c .before .before .before .link-of3 .result .head) (c .before .before .before .link-of3 .result .weight) (omega arith) (c .before .before .before .link-of3 .ensures) _ (c .before .before .open-arc2 .ensures .1) (c .before .before .open-arc2 .ensures .0)
 
 pub open-item-spec : {M : Type 1} → statement M
 open-item-spec =

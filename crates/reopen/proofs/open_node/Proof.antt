@@ -5,7 +5,7 @@ use native.Mathlib.Omega.{arith}
 use borrow.Author.Needs.{needs}
 use lib.ListN.{length, getD, drop}
 use Rattle.rows.specs.Net.{netOf}
-use Rattle.reopen.proofs.RowsOpened.{kept-rows, reopened, opened-starts, opened-sound}
+use Rattle.reopen.proofs.RowsOpened.{kept-rows, beside, reopened, opened-starts, opened-sound}
 use Rattle.reopen.proofs.open_node.Statement.{statement}
 use Rattle.reopen.proofs.open_node.Tie as tie
 use Rattle.reopen.proofs.open_node.Reads as reads
@@ -29,14 +29,17 @@ same-length : tie.Need-same-length
 same-length c = search needs
 
 returns : tie.Need-returns
-returns c n i xs old O R =
+returns c =
     let s = c .before .before .before .before .before .before .before .before .before .before .before .before in
     let t = c .before .before .before .before .before .before .save in
     let r = c .before .before .settle-rows in
-    let kept = t .last .0 in
-    let K = kept-rows n xs old (s .args .marks .now) (s .args .cap) (s .args .starts .now) (s .args .work .now) kept (r .last .1 .1 .1 .0) (O .proper .few) (s .pre .3) (t .ensures) R in
-    reopened n xs old (s .args .marks .now) (s .args .cap) (s .args .starts .now) (s .args .work .now) kept (r .last .1 .1 .1 .0) (O .proper .few) (s .pre .3) (t .ensures) (r .ensures .1) R
-    (r .ensures .0 (netOf n xs (s .args .marks .now)) (opened-starts O) (opened-sound O (s .args .cap) kept (s .pre .2) K))
+    let kept = t .last .0 in (
+      λ n i xs old O R.
+          let K = kept-rows n xs old (s .args .marks .now) (s .args .cap) (s .args .starts .now) (s .args .work .now) kept (r .last .1 .1 .1 .0) (O .proper .few) (s .pre .3) (t .ensures) R in
+          reopened n xs old (s .args .marks .now) (s .args .cap) (s .args .starts .now) (s .args .work .now) kept (r .last .1 .1 .1 .0) (O .proper .few) (s .pre .3) (t .ensures) (r .ensures .1) R
+          (r .ensures .0 (netOf n xs (s .args .marks .now)) (opened-starts O) (opened-sound O (s .args .cap) kept (s .pre .2) K)),
+      beside (s .args .starts .now) (s .args .work .now) kept (r .last .1 .1 .1 .0) (t .ensures .1) (r .ensures .1),
+    )
 
 pub open-node-spec : {M : Type 1} → statement M
 open-node-spec =

@@ -1,0 +1,40 @@
+-- What holds while the items are gone through.
+use Prim.Native.Nat.{ℕ, _+_, _≤_, _<_}
+use mathlib.Core.Path.{_≡_}
+use mathlib.Core.Bool.{Bool, true, false, not}
+use mathlib.Core.List.{List}
+use lib.ListN.{length, getD}
+use Rattle.lists.specs.Lists.{Distinct}
+use Rattle.walks.specs.Flat.{graphOf}
+use Rattle.walks.specs.Graph.{closedIn, fits}
+use Rattle.rows.specs.Held.{missing}
+use Rattle.rows.specs.Net.{netOf, arcCount, Joins}
+use Rattle.rows.specs.Rows.{RowsAre}
+use Rattle.lengths.specs.Table.{StartsAre, Noted}
+
+-- What stays: the nodes and arcs, the target, the limit, the goals, and the starts of the rows, the first of which is the source.
+pub record Setting (n : ℕ) (xs : List ℕ) (to cap : ℕ) (goals starts : List ℕ) : Type 0 where
+  pub small : cap < missing
+  pub few : n ≤ 64
+  pub joins : Joins n xs
+  pub target : to < n
+  pub eight : length goals ≤ 8
+  pub below : (i : ℕ) → i < length goals → getD goals i 0 < n + arcCount xs
+  pub distinct : Distinct goals
+  pub begin : StartsAre (graphOf n xs) (getD starts 0 0) goals starts
+  pub counted : length starts ≡ length goals + 1
+
+-- some walk fits where the marks close
+abbrev pub fitsAt : ℕ → List ℕ → ℕ → ℕ → List ℕ → List ℕ → List ℕ → Bool
+fitsAt n xs to cap goals starts marks = fits (graphOf n xs) (getD starts 0 0) to cap (closedIn marks) goals
+
+-- the work holds the rows and the goals' entries and own lengths for the marks
+pub record Ready (n : ℕ) (xs marks : List ℕ) (cap : ℕ) (goals starts work : List ℕ) : Type 0 where
+  pub rows : RowsAre (netOf n xs marks) cap starts (length starts) work
+  pub noted : Noted (netOf n xs marks) cap goals work
+
+-- Whether no walk fits once an item is opened: then the work holds what it has to for the marks, else the rows before are back.
+pub record Judged (n : ℕ) (xs : List ℕ) (to cap : ℕ) (goals starts old marks after : List ℕ) (r : Bool) : Type 0 where
+  pub answer : fitsAt n xs to cap goals starts marks ≡ not r
+  pub opened : r ≡ true → Ready n xs marks cap goals starts after
+  pub back : r ≡ false → RowsAre (netOf n xs old) cap starts (length starts) after
