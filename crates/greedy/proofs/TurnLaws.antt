@@ -1,15 +1,15 @@
 -- An item is opened, with the rows settled again: where no entry that matters is another, no walk fits that did not before; else the table tells.
 -- Assumes nothing.
-use Prim.Native.Nat.{ℕ, zero, suc, _+_, _-_, _*_, _≤_, _<_}
+use Prim.Native.Nat.{ℕ, zero, suc, _+_, _-_, _*_, _/_, _≤_, _<_}
 use mathlib.Core.Path.{_≡_, refl, sym, ap, _∙_, subst}
 use mathlib.Core.Logic.{_⊎_, inl, inr}
 use mathlib.Core.Bool.{Bool, true, false, not, true≢false}
 use mathlib.Core.List.{List, [], _∷_}
 use native.Mathlib.Omega.{arith}
 use lib.ListN.{length, getD, take, drop, set, length-set}
-use lib.Seq.{getD-take, getD-drop, take-take}
+use lib.Seq.{getD-take, getD-drop, take-take, set-set, set-getD}
 use lib.Dec.{leb, ltb}
-use borrow.Author.Tests.{leb-true, leb-false, le-leb, lt-leb}
+use borrow.Author.Tests.{eqb-true, leb-true, leb-false, le-leb, lt-leb}
 use Rattle.lists.specs.Lists.{member}
 use Rattle.lists.proofs.MemberLaws.{member-cases, member-none}
 use Rattle.walks.specs.Flat.{graphOf}
@@ -24,8 +24,9 @@ use Rattle.rows.proofs.ArcLaws.{item-at, entry-below}
 use Rattle.lengths.specs.Table.{GoalsFit, Rowed, Noted}
 use Rattle.lengths.proofs.PartLaws.{rowed-of}
 use Rattle.reopen.proofs.RowsOpened.{rows-same}
+use Rattle.reopen.proofs.PackOpened.{packed-whole}
 use Rattle.reopen.specs.Openings.{Opened, Beside, Reopened, ItemOpened, Unmoved}
-use Rattle.greedy.specs.Turns.{Setting, fitsAt, Ready, Judged}
+use Rattle.greedy.specs.Turns.{Setting, fitsAt, Ready, Judged, State, Turned}
 use Rattle.greedy.proofs.SameLaws.{Same, Alike, goals-same}
 
 -- a walk fits where the length that is held is at most the cap
@@ -118,18 +119,18 @@ module _ {n : ℕ} {xs : List ℕ} {to cap : ℕ} {goals starts : List ℕ} (S :
           }
 
 -- the front of the work stays
+front-same : (n : ℕ) (work after : List ℕ) → take n after ≡ take n work → (j : ℕ) → j < n → getD after j 0 ≡ getD work j 0
+front-same n work after e j h = sym (getD-take n after j 0 h) ∙ ap (λ (l : List ℕ). getD l j 0) e ∙ getD-take n work j 0 h
+
 pub front-less : (work after : List ℕ) → take 1024 after ≡ take 1024 work → take 576 after ≡ take 576 work
 front-less work after e = sym (take-take 576 1024 after (omega arith)) ∙ ap (take 576) e ∙ take-take 576 1024 work (omega arith)
 
 pub noted-kept : (N : Net) (cap : ℕ) (goals work after : List ℕ) → length goals ≤ 8 → take 1024 after ≡ take 1024 work → Noted N cap goals work
     → Noted N cap goals after
 noted-kept N cap goals work after eight e E = record {
-  entries = λ j h. same (576 + j) (omega arith) ∙ E .entries j h;
-  owns = λ j h. same (584 + j) (omega arith) ∙ E .owns j h;
+  entries = λ j h. front-same 1024 work after e (576 + j) (omega arith) ∙ E .entries j h;
+  owns = λ j h. front-same 1024 work after e (584 + j) (omega arith) ∙ E .owns j h;
 }
-  where
-    same : (j : ℕ) → j < 1024 → getD after j 0 ≡ getD work j 0
-    same j h = sym (getD-take 1024 after j 0 h) ∙ ap (λ (l : List ℕ). getD l j 0) e ∙ getD-take 1024 work j 0 h
 
 -- the marks with the item open, as the code has them
 pub opening : {n : ℕ} {xs : List ℕ} {to cap : ℕ} {goals starts : List ℕ} → Setting n xs to cap goals starts → (old : List ℕ) (i : ℕ) (marks ys : List ℕ)
@@ -187,12 +188,74 @@ module _ {n : ℕ} {xs : List ℕ} {to cap : ℕ} {goals starts : List ℕ} (S :
     opened = λ q. record {
       rows =
           rows-same (netOf n xs marks) cap starts (length starts) mid after (S .few)
-          (λ j h.
-          let k : j < 576 = omega (arith, S .counted, S .eight) in
-          sym (getD-take 576 after j 0 k) ∙ ap (λ (l : List ℕ). getD l j 0) (t q .1) ∙ getD-take 576 mid j 0 k)
+          (λ j h. front-same 576 mid after (t q .1) j (omega (arith, S .counted, S .eight)))
           (P .rows);
       noted = t q .0;
     };
     back = λ q.
         rows-same (netOf n xs old) cap starts (length starts) (drop 3072 mid) after (S .few) (λ j h. f q j h ∙ sym (getD-drop 3072 mid j 0)) (P .kept);
+  }
+
+-- an item that was closed is closed again
+pub closed-again : (marks : List ℕ) (i : ℕ) → closedIn marks i ≡ true → set (set marks i 0) i 2 ≡ marks
+closed-again marks i q = set-set marks i 0 2 ∙ ap (set marks i) (sym (eqb-true (getD marks i 0) 2 q)) ∙ set-getD marks i 0
+
+-- The three ways of a turn: the item is open, it is opened, and it is closed again and listed.
+module _ {n : ℕ} {xs : List ℕ} {to cap : ℕ} {goals starts marks : List ℕ} {i : ℕ} where
+  pub turn-passed : closedIn marks i ≡ false → Turned n xs to cap goals starts marks i marks false
+  turn-passed p = record { passed = λ _. (refl, refl); tried = λ q. absurd (true≢false (sym q ∙ p)) }
+
+  module _ (p : closedIn marks i ≡ true) where
+    pub turn-opened : {after : List ℕ} → Judged n xs to cap goals starts marks (set marks i 0) after true
+        → Turned n xs to cap goals starts marks i (set marks i 0) false
+    turn-opened J = record { passed = λ q. absurd (true≢false (sym p ∙ q)); tried = λ _. (J .answer, refl) }
+
+    pub turn-listed : {after : List ℕ} → Judged n xs to cap goals starts marks (set marks i 0) after false
+        → Turned n xs to cap goals starts marks i (set (set marks i 0) i 2) true
+    turn-listed J = record { passed = λ q. absurd (true≢false (sym p ∙ q)); tried = λ _. (J .answer, closed-again marks i p) }
+
+module _ {n : ℕ} {xs : List ℕ} {to cap : ℕ} {goals starts marks packed : List ℕ} {c : ℕ} {work : List ℕ} (S : Setting n xs to cap goals starts)
+    (T : State n xs marks to cap goals starts packed c work) (i : ℕ) where
+  pub opened-proper : Proper (netOf n xs (set marks i 0))
+  opened-proper = set-proper S (set marks i 0) (omega (arith, T .marked, length-set marks i 0))
+
+  pub again-proper : Proper (netOf n xs (set (set marks i 0) i 2))
+  again-proper = set-proper S (set (set marks i 0) i 2) (omega (arith, T .marked, length-set marks i 0, length-set (set marks i 0) i 2))
+
+  pub entries-below : (j : ℕ) → j < length goals → getD work (576 + j) 0 < 64
+  entries-below j h =
+      let e = entry-below (netOf n xs marks) (getD goals j 0) (set-proper S marks (T .marked)) (S .below j h) in
+      omega (arith, T .ready .noted .entries j h, S .few)
+
+  pub state-opened : {packed′ work′ : List ℕ} {c′ : ℕ} → length packed′ ≡ length packed → length work′ ≡ length work → c′ * 3 ≤ length packed
+      → Packed (netOf n xs (set marks i 0)) (take (c′ * 3) packed′) → Judged n xs to cap goals starts marks (set marks i 0) work′ true
+      → State n xs (set marks i 0) to cap goals starts packed′ c′ work′
+  state-opened l w r P J = record {
+    marked = omega (arith, T .marked, length-set marks i 0);
+    wide = l ∙ T .wide;
+    room = omega (arith, T .wide);
+    arcs = P;
+    long = w ∙ T .long;
+    ready = J .opened refl;
+    blocked = J .answer;
+  }
+
+  pub state-listed : {packed′ mid work′ : List ℕ} {r : ℕ} → closedIn marks i ≡ true → length packed′ ≡ length packed → length work′ ≡ length work
+      → r ≤ length packed′ → Packed (netOf n xs (set (set marks i 0) i 2)) (take r packed′)
+      → Judged n xs to cap goals starts marks (set marks i 0) mid false → Noted (netOf n xs (set (set marks i 0) i 2)) cap goals work′
+      → take 576 work′ ≡ take 576 mid → State n xs (set (set marks i 0) i 2) to cap goals starts packed′ (r / 3) work′
+  state-listed {packed′} {mid} {work′} {r} p l w h P J N e = record {
+    marked = again-proper .marked;
+    wide = l ∙ T .wide;
+    room = omega (arith, T .wide);
+    arcs = packed-whole packed′ r h P;
+    long = w ∙ T .long;
+    ready = record {
+      rows =
+          rw (closed-again marks i p)
+          (rows-same (netOf n xs marks) cap starts (length starts) mid work′ (S .few)
+          (λ j k. front-same 576 mid work′ e j (omega (arith, S .counted, S .eight))) (J .back refl));
+      noted = N;
+    };
+    blocked = rw (closed-again marks i p) (T .blocked);
   }

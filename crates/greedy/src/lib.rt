@@ -9,7 +9,7 @@ ghost use Rattle.walks.specs.Graph.{closedIn, fits};
 ghost use Rattle.rows.specs.Held.{missing};
 ghost use Rattle.rows.specs.Net.{netOf, arcCount, Proper, Packed};
 ghost use Rattle.lengths.specs.Table.{GoalsFit, Rowed, Noted};
-ghost use Rattle.greedy.specs.Turns.{Setting, fitsAt, Ready, Judged};
+ghost use Rattle.greedy.specs.Turns.{Setting, fitsAt, Ready, Judged, State, Turned, PutDown};
 use lengths::Query;
 use reopen::Opening;
 
@@ -126,4 +126,79 @@ fn blocked(
         return true;
     }
     true
+}
+
+// An item whose turn it is, with `count` arcs packed; and what its turn gives: whether it is listed, and how many arcs are packed then.
+pub struct Turn {
+    pub nodes: usize,
+    pub item: usize,
+    pub to: usize,
+    pub cap: u32,
+    pub count: usize,
+}
+
+pub struct Outcome {
+    pub listed: bool,
+    pub count: usize,
+}
+
+// Takes an item's turn: one that is closed is opened, with those opened earlier also open and later ones still closed. If no walk then meets the
+// goals within the limit it remains open; otherwise it is closed again and listed.
+fn take_turn(
+    t: Turn,
+    arcs: &[u32],
+    marks: &mut [u8],
+    packed: &mut [u32],
+    starts: &[usize],
+    goals: &[usize],
+    work: &mut [u32],
+) -> Outcome
+    requires { ⌜ Setting (t .nodes) (now arcs) (t .to) (t .cap) (now goals) (now starts) × (length (now arcs) ≤ 1536) × (t .item < t .nodes + arcCount (now arcs)) ⌝ }
+    requires { ⌜ State (t .nodes) (now arcs) (now marks) (t .to) (t .cap) (now goals) (now starts) (now packed) (t .count) (now work) ⌝ }
+    ensures { λ r. ⌜ Turned (t .nodes) (now (arcs .entry)) (t .to) (t .cap) (now (goals .entry)) (now (starts .entry)) (now (marks .entry)) (t .item) (now (marks .exit)) (r .listed) ⌝ }
+    ensures { λ r. ⌜ State (t .nodes) (now (arcs .entry)) (now (marks .exit)) (t .to) (t .cap) (now (goals .entry)) (now (starts .entry)) (now (packed .exit)) (r .count) (now (work .exit)) ⌝ }
+{
+    let nodes = t.nodes;
+    let item = t.item;
+    let cap = t.cap;
+    if marks[item] != FORBIDDEN {
+        return Outcome {
+            listed: false,
+            count: t.count,
+        };
+    }
+    marks[item] = 0;
+    let count = reopen::pack_opened(nodes, arcs, marks, packed, item, t.count);
+    let n = count * 3;
+    let o = Opening {
+        nodes: t.nodes,
+        item: t.item,
+        to: t.to,
+        cap: t.cap,
+        goal: is_goal(goals, item),
+    };
+    if blocked(o, arcs, marks, &packed[..n], starts, goals, work) {
+        return Outcome {
+            listed: false,
+            count,
+        };
+    }
+    marks[item] = FORBIDDEN;
+    lengths::note_goals(nodes, arcs, marks, goals, work, cap);
+    Outcome {
+        listed: true,
+        count: rows::pack(nodes, arcs, marks, packed) / 3,
+    }
+}
+
+// Puts an item behind the `n` listed ones, if it is to be listed, and gives how many there are then.
+fn put_down(list: &mut [u32], n: usize, item: usize, listed: bool) -> usize
+    requires { ⌜ (n < length (now list)) × (item < 576) ⌝ }
+    ensures { λ r. ⌜ PutDown (now (list .entry)) n item listed (now (list .exit)) r ⌝ }
+{
+    if listed {
+        list[n] = item as u32;
+        return n + 1;
+    }
+    n
 }
