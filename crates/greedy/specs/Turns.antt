@@ -58,3 +58,11 @@ pub record Turned (n : ℕ) (xs : List ℕ) (to cap : ℕ) (goals starts marks :
 pub record PutDown (list : List ℕ) (n i : ℕ) (listed : Bool) (after : List ℕ) (r : ℕ) : Type 0 where
   pub there : listed ≡ true → (after ≡ set list n i) × (r ≡ n + 1)
   pub away : listed ≡ false → (after ≡ list) × (r ≡ n)
+
+-- what is made ready before the first turn
+pub record Begun (n : ℕ) (xs marks : List ℕ) (from to cap : ℕ) (goals starts packed : List ℕ) (c : ℕ) (work : List ℕ) : Type 0 where
+  pub setting : Setting n xs to cap goals starts
+  pub source : getD starts 0 0 ≡ from
+  pub room : c * 3 ≤ 1536
+  pub arcs : Packed (netOf n xs marks) (take (c * 3) packed)
+  pub ready : Ready n xs marks cap goals starts work

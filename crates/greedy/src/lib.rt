@@ -3,13 +3,14 @@ ghost use mathlib.Core.Bool.{Bool, true, false, not};
 ghost use mathlib.Core.List.{List};
 ghost use Prim.Native.Nat.{ℕ, _+_, _*_, _≤_, _<_};
 ghost use lib.ListN.{length, getD, take, drop, set};
-ghost use Rattle.lists.specs.Lists.{pick};
+ghost use Rattle.lists.specs.Lists.{front};
 ghost use Rattle.walks.specs.Flat.{graphOf};
 ghost use Rattle.walks.specs.Graph.{closedIn, fits};
+ghost use Rattle.explain.specs.Reasons.{reasons};
 ghost use Rattle.rows.specs.Held.{missing};
 ghost use Rattle.rows.specs.Net.{netOf, arcCount, Proper, Packed};
 ghost use Rattle.lengths.specs.Table.{GoalsFit, Rowed, Noted};
-ghost use Rattle.greedy.specs.Turns.{Setting, fitsAt, Ready, Judged, State, Turned, PutDown};
+ghost use Rattle.greedy.specs.Turns.{Setting, fitsAt, Ready, Judged, State, Turned, PutDown, Begun};
 use lengths::Query;
 use reopen::Opening;
 
@@ -19,8 +20,15 @@ const FORBIDDEN: u8 = 2;
 // The most items that a graph has, nodes and arcs together.
 const MOST_ITEMS: usize = 576;
 
-// The numbers of a row.
+// The most numbers that the arcs take, three each.
+const ARC_NUMBERS: usize = 1536;
+
+// The most rows, one from the source and one from where each of eight goals is left, and the numbers of a row.
+const ROWS: usize = 9;
 const ROW_LENGTH: usize = 64;
+
+// The numbers of the work that are used.
+const USED: usize = 3648;
 
 // The marks in an array of their own, open past their end.
 fn copied(marks: &[u8]) -> [u8; MOST_ITEMS]
@@ -201,4 +209,21 @@ fn put_down(list: &mut [u32], n: usize, item: usize, listed: bool) -> usize
         return n + 1;
     }
     n
+}
+
+// Makes ready for the first turn: the starts of the rows, the open arcs, of which it gives the count, the rows, and the goals.
+fn begin(q: Query, arcs: &[u32], marks: &[u8], goals: &[usize], packed: &mut [u32], starts: &mut [usize], work: &mut [u32]) -> usize
+    requires { ⌜ Proper (netOf (q .nodes) (now arcs) (now marks)) × GoalsFit (netOf (q .nodes) (now arcs) (now marks)) (now goals) × (length (now arcs) ≤ 1536) ⌝ }
+    requires { ⌜ (length (now packed) ≡ 1536) × (length (now starts) ≡ 9) × (length (now work) ≡ 3648) ⌝ }
+    requires { ⌜ (q .from < q .nodes) × (q .to < q .nodes) × (q .cap < missing) ⌝ }
+    ensures { λ r. ⌜ Begun (q .nodes) (now (arcs .entry)) (now (marks .entry)) (q .from) (q .to) (q .cap) (now (goals .entry)) (take (length (now (goals .entry)) + 1) (now (starts .exit))) (now (packed .exit)) r (now (work .exit)) ⌝ }
+{
+    let nodes = q.nodes;
+    let cap = q.cap;
+    lengths::set_starts(nodes, arcs, q.from, goals, starts);
+    let n = rows::pack(nodes, arcs, marks, packed);
+    let count = goals.len() + 1;
+    rows::fill_rows(&packed[..n], marks, &starts[..count], work, cap);
+    lengths::note_goals(nodes, arcs, marks, goals, work, cap);
+    n / 3
 }
