@@ -263,7 +263,7 @@ fn start_rows(q: Query, arcs: &[u32], marks: &[u8], goals: &[usize], work: &mut 
     let mut starts = [0usize; ROWS];
     set_starts(q.nodes, arcs, q.from, goals, &mut starts);
     let count = goals.len() + 1;
-    rows::fill_rows(&packed[..n], marks, &starts[..count], work, q.cap);
+    spread::fill_rows(&packed[..n], marks, &starts[..count], work, q.cap);
 }
 
 // The least length of a walk from `from` to `to`, clear of the forbidden items, that meets all goals; MISSING where there is none of at most

@@ -3,5 +3,4 @@ pub mod ArcLaws
 pub mod OpenLaws
 pub mod RowLaws
 pub mod PackLaws
-pub mod TurnLaws
 pub mod WorkLaws

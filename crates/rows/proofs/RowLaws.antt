@@ -2,12 +2,12 @@
 use Prim.Native.Nat.{ℕ, zero, suc, _+_, _≤_, _<_}
 use mathlib.Core.Path.{_≡_, refl, sym, ap, _∙_}
 use mathlib.Core.Logic.{_⊎_, inl, inr}
-use mathlib.Core.List.{List, [], _∷_, _++_, append-nil}
+use mathlib.Core.List.{List, [], _∷_, _++_}
 use mathlib.Core.Bool.{Bool, true, false, _||_, true≢false}
 use native.Mathlib.Omega.{arith}
 use native.Mathlib.Decide.{ℕ-discrete, decLt}
-use lib.ListN.{length, getD, set, drop, replicate, length-set}
-use lib.Seq.{getD-set-same, getD-set-other, drop-length}
+use lib.ListN.{length, getD, set, length-set}
+use lib.Seq.{getD-set-same, getD-set-other}
 use borrow.Author.Tests.{eq-eqb, ne-eqb}
 use Rattle.walks.proofs.Join.{meets-none, len-append, walk-append, walk-first, walk-last}
 use Rattle.walks.proofs.LeastLaw.{Upto, Attained, is-least, fit-walk, walk-fit}
@@ -179,16 +179,6 @@ module _ (N : Net) (cap : ℕ) (xs d : List ℕ) (P : Packed N xs) (t : Settled 
           low q (ap some (omega (arith, W .2, reached k a (omega (arith, W .2)))))
       go none a l (inr q) = rw q (high tt)
       go (some k) a l (inr q) = rw q (high (far k a q (decLt cap k)))
-
--- a row filled to its end
-pub filled : (i v : ℕ) (d e : List ℕ) → i ≡ length d → e ≡ replicate i v ++ drop i d → e ≡ replicate (length d) v
-filled i v d e q p =
-    let z : drop (length d) d ≡ [] = drop-length d in
-    p ∙ ap (λ (k : ℕ). replicate k v ++ drop k d) q ∙ ap (λ (l : List ℕ). replicate (length d) v ++ l) z ∙ append-nil (replicate (length d) v)
-
--- a row with no entry is sound
-pub blank-sound : (N : Net) (cap s : ℕ) (d : List ℕ) → N .nodes ≤ 64 → cap < missing → ((v : ℕ) → v < 64 → getD d v 0 ≡ missing) → Sound N cap s d
-blank-sound N cap s d l c b = record { sound = λ v hv f. absurd (omega (arith, b v (omega arith))); range = λ v hv. inr (b v (omega arith)) }
 
 -- a sound row with 0 at an open start is good
 start-open : (N : Net) (cap s : ℕ) (d : List ℕ) → s < N .nodes → N .nodes ≤ length d → closed N s ≡ false → Sound N cap s d → Good N cap s (set d s 0)

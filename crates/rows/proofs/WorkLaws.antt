@@ -3,11 +3,10 @@ use Prim.Native.Nat.{ℕ, _+_, _*_, _≤_, _<_}
 use mathlib.Core.Path.{_≡_, sym, ap, _∙_, subst}
 use mathlib.Core.List.{List, _++_, append-assoc}
 use native.Mathlib.Omega.{arith}
-use lib.ListN.{length, getD, take, drop, replicate, length-append, length-drop, length-replicate, getD-replicate, List·getD-append}
+use lib.ListN.{length, getD, take, drop, length-append, List·getD-append}
 use lib.Seq.{length-take-le, getD-append-add, getD-take, getD-drop, drop-at, drop-drop}
 use borrow.Author.Count.{below-more}
 use Rattle.rows.proofs.OpenLaws.{row-sound}
-use Rattle.rows.proofs.RowLaws.{blank-sound}
 use Rattle.rows.specs.Held.{missing}
 use Rattle.rows.specs.Net.{Net}
 use Rattle.rows.specs.Rows.{RowIs, Sound, rowAt, RowsAre, RowsSound}
@@ -42,36 +41,9 @@ pub row-begun : (N : Net) (cap s i k : ℕ) (work work₀ : List ℕ) → k ≡ 
     → Sound N cap s (take k (drop (i * 64) work))
 row-begun N cap s i k work work₀ q e S = rw (q, e) S
 
-row-entry : (work : List ℕ) (i v : ℕ) → v < 64 → getD (rowAt work i) v 0 ≡ getD work (i * 64 + v) 0
+pub row-entry : (work : List ℕ) (i v : ℕ) → v < 64 → getD (rowAt work i) v 0 ≡ getD work (i * 64 + v) 0
 row-entry work i v h = getD-take 64 (drop (i * 64) work) v 0 h ∙ getD-drop (i * 64) work v 0
 
 -- rows that hold least lengths are sound
 pub rows-sound : (N : Net) (cap : ℕ) (starts work : List ℕ) → N .nodes ≤ 64 → cap < missing → RowsAre N cap starts (length starts) work → RowsSound N cap starts work
 rows-sound N cap starts work few c R i h = row-sound N cap (getD starts i 0) (rowAt work i) c (λ v hv. row-entry work i v (omega arith) ∙ R i h v hv)
-
--- so are rows with no entry
-blank-rows : (N : Net) (cap n : ℕ) (starts zs : List ℕ) → N .nodes ≤ 64 → cap < missing → length starts * 64 ≤ n → RowsSound N cap starts (replicate n missing ++ zs)
-blank-rows N cap n starts zs few c l i h =
-    blank-sound N cap (getD starts i 0) (rowAt (replicate n missing ++ zs) i) few c blank
-  where
-    blank : (v : ℕ) → v < 64 → getD (rowAt (replicate n missing ++ zs) i) v 0 ≡ missing
-    blank v hv =
-        row-entry (replicate n missing ++ zs) i v hv
-        ∙ List·getD-append (replicate n missing) zs 0 (i * 64 + v) (rw length-replicate (omega arith)) ∙ getD-replicate n (i * 64 + v) missing 0 (omega arith)
-
--- the first n numbers of the work are filled
-module _ (n : ℕ) (work ys : List ℕ) (room : n ≤ length work) (e : ys ≡ replicate (length (take n work)) missing) where
-  front-is : ys ≡ replicate n missing
-  front-is = e ∙ ap (λ (k : ℕ). replicate k missing) (length-take-le n work room)
-
-  front-many : length ys ≡ n
-  front-many = ap length front-is ∙ length-replicate n missing
-
-  pub front-long : length (ys ++ drop n work) ≡ length work
-  front-long = length-append ys (drop n work) ∙ omega (arith, front-many, length-drop n work)
-
-  pub front-rest : drop n (ys ++ drop n work) ≡ drop n work
-  front-rest = drop-at ys (drop n work) n front-many
-
-  pub front-sound : (N : Net) (cap : ℕ) (starts : List ℕ) → N .nodes ≤ 64 → cap < missing → length starts * 64 ≤ n → RowsSound N cap starts (ys ++ drop n work)
-  front-sound N cap starts few c l = rw front-is (blank-rows N cap n starts (drop n work) few c l)

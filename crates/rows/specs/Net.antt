@@ -76,7 +76,3 @@ pub record PackedTo (N : Net) (n : ℕ) (xs : List ℕ) (c : ℕ) : Type 0 where
 -- the arcs of the list are the open ones
 abbrev pub Packed : Net → List ℕ → Type 0
 Packed N xs = PackedTo N (count N) xs (arcCount xs)
-
--- the first i arcs of ys are those of xs with tail and head exchanged
-abbrev pub TurnedTo : ℕ → List ℕ → List ℕ → Type 0
-TurnedTo i xs ys = (k : ℕ) → k < i → (tailIn ys k ≡ headIn xs k) × (headIn ys k ≡ tailIn xs k) × (weightIn ys k ≡ weightIn xs k)

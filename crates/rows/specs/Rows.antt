@@ -68,6 +68,10 @@ pub record Round (cap : ℕ) (xs d e : List ℕ) (changed : Bool) : Type 0 where
 abbrev pub Keeps : ℕ → List ℕ → List ℕ → List ℕ → Type 0
 Keeps cap xs d e = (N : Net) (s : ℕ) → Proper N → Packed N xs → Good N cap s d → Good N cap s e
 
+-- what setting the start does: its entry is 0 where it is open
+abbrev pub Started : List ℕ → ℕ → List ℕ → List ℕ → Type 0
+Started marks s d e = ((getD marks s 0 ≡ 2 → ⊥) × (e ≡ set d s 0)) ⊎ ((getD marks s 0 ≡ 2) × (e ≡ d))
+
 -- s is a node, and the arcs of the list are the open ones of a graph with these marks
 pub record StartOf (N : Net) (xs marks : List ℕ) (s : ℕ) : Type 0 where
   pub proper : Proper N

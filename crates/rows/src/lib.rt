@@ -1,18 +1,12 @@
 ghost use mathlib.Core.Path.{_≡_};
-ghost use Prim.Native.Nat.{ℕ, _+_, _*_, _≤_, _<_};
-ghost use lib.ListN.{length, replicate, take, drop};
+ghost use Prim.Native.Nat.{_+_, _*_, _≤_, _<_};
+ghost use lib.ListN.{length, take, drop};
 ghost use Rattle.rows.specs.Held.{missing};
-ghost use Rattle.rows.specs.Net.{Net, netOf, count, arcCount, tailIn, headIn, weightIn, Proper, Joins, PackedTo, Packed, TurnedTo};
-ghost use Rattle.rows.specs.Rows.{RowIs, RowTo, Sound, Relaxed, ArcTried, Swept, Round, Settled, Keeps, StartOf, StartsOf, StartsFit, RowsAre, RowsSound};
-
-// What a row holds where there is no way of at most the cap.
-pub const MISSING: u32 = 0xFFFF_FFFF;
+ghost use Rattle.rows.specs.Net.{Net, netOf, arcCount, Proper, Joins, PackedTo, Packed};
+ghost use Rattle.rows.specs.Rows.{RowIs, Sound, Relaxed, ArcTried, Swept, Round, Settled, Keeps, Started, StartOf, StartsOf, StartsFit, RowsAre, RowsSound};
 
 // The mark of a forbidden item.
 const FORBIDDEN: u8 = 2;
-
-// The most numbers that the arcs take, three each.
-const ARC_NUMBERS: usize = 1536;
 
 // The numbers of a row, one for each node.
 const ROW_LENGTH: usize = 64;
@@ -59,17 +53,6 @@ pub fn pack(nodes: usize, arcs: &[u32], marks: &[u8], packed: &mut [u32]) -> usi
     c * 3
 }
 
-// Stores `v` in each entry.
-fn fill(row: &mut [u32], v: u32)
-    ensures { λ _. ⌜ now (row .exit) ≡ replicate (length (now (row .entry))) v ⌝ }
-{
-    let mut i = 0;
-    while i < row.len() {
-        row[i] = v;
-        i += 1;
-    }
-}
-
 // Cuts the entry at `to` where the way over `from` is shorter and at most `cap`.
 pub fn relax(row: &mut [u32], from: usize, to: usize, weight: u32, cap: u32) -> bool
     requires { ⌜ (from < length (now row)) × (to < length (now row)) ⌝ }
@@ -91,7 +74,7 @@ pub fn relax(row: &mut [u32], from: usize, to: usize, weight: u32, cap: u32) -> 
 }
 
 // Tries arc `i` of the open arcs.
-fn try_arc(arcs: &[u32], row: &mut [u32], i: usize, cap: u32) -> bool
+pub fn try_arc(arcs: &[u32], row: &mut [u32], i: usize, cap: u32) -> bool
     requires { ⌜ Joins 64 (now arcs) × (length (now row) ≡ 64) × (i < arcCount (now arcs)) ⌝ }
     ensures { λ r. ⌜ ArcTried cap (now (arcs .entry)) (now (row .entry)) i (now (row .exit)) r ⌝ }
 {
@@ -149,12 +132,22 @@ fn sweep(arcs: &[u32], row: &mut [u32], cap: u32) -> bool
 }
 
 // Tries the arcs until none can cut an entry.
-fn settle(arcs: &[u32], row: &mut [u32], cap: u32)
+pub fn settle(arcs: &[u32], row: &mut [u32], cap: u32)
     requires { ⌜ Joins 64 (now arcs) × (length (now row) ≡ 64) ⌝ }
     ensures { λ _. ⌜ Keeps cap (now (arcs .entry)) (now (row .entry)) (now (row .exit)) ⌝ }
     ensures { λ _. ⌜ Settled cap (now (arcs .entry)) 0 (arcCount (now (arcs .entry))) (now (row .exit)) ⌝ }
 {
     while sweep(arcs, row, cap) {}
+}
+
+// Stores 0 for the start itself, if it is open.
+pub fn start(marks: &[u8], from: usize, row: &mut [u32])
+    requires { ⌜ (from < length (now marks)) × (from < length (now row)) ⌝ }
+    ensures { λ _. ⌜ Started (now (marks .entry)) from (now (row .entry)) (now (row .exit)) ⌝ }
+{
+    if marks[from] != FORBIDDEN {
+        row[from] = 0;
+    }
 }
 
 // Leaves in `row` the least length from `from` to each node over the packed arcs; MISSING above `cap`.
@@ -163,59 +156,8 @@ pub fn settle_row(arcs: &[u32], marks: &[u8], from: usize, row: &mut [u32], cap:
     requires { ⌜ Joins 64 (now arcs) × (length (now row) ≡ 64) × (from < 64) × (from < length (now marks)) × (cap < missing) ⌝ }
     ensures { λ _. ⌜ ((N : Net) → StartOf N (now (arcs .entry)) (now (marks .entry)) from → Sound N cap from (now (row .entry)) → RowIs N cap from (now (row .exit))) ⌝ }
 {
-    if marks[from] != FORBIDDEN {
-        row[from] = 0;
-    }
+    start(marks, from, row);
     settle(arcs, row, cap);
-}
-
-// The same for a row that holds anything.
-fn fill_row(arcs: &[u32], marks: &[u8], from: usize, row: &mut [u32], cap: u32)
-    requires { ⌜ Joins 64 (now arcs) × (length (now row) ≡ 64) × (from < 64) × (from < length (now marks)) × (cap < missing) ⌝ }
-    ensures { λ _. ⌜ ((N : Net) → StartOf N (now (arcs .entry)) (now (marks .entry)) from → RowIs N cap from (now (row .exit))) ⌝ }
-{
-    fill(row, MISSING);
-    settle_row(arcs, marks, from, row, cap);
-}
-
-// Leaves in `row` the least length from `from` to each node, clear of the forbidden items; MISSING above `cap`.
-pub fn row_from(nodes: usize, arcs: &[u32], marks: &[u8], from: usize, row: &mut [u32], cap: u32)
-    requires { ⌜ Proper (netOf nodes (now arcs) (now marks)) × (length (now arcs) ≤ 1536) ⌝ }
-    requires { ⌜ (length (now row) ≡ 64) × (from < nodes) × (cap < missing) ⌝ }
-    ensures { λ _. ⌜ RowIs (netOf nodes (now (arcs .entry)) (now (marks .entry))) cap from (now (row .exit)) ⌝ }
-{
-    let mut packed = [0u32; ARC_NUMBERS];
-    let n = pack(nodes, arcs, marks, &mut packed);
-    fill_row(&packed[..n], marks, from, row, cap);
-}
-
-// The arcs with tail and head exchanged.
-fn turned(arcs: &[u32]) -> [u32; ARC_NUMBERS]
-    requires { ⌜ length (now arcs) ≤ 1536 ⌝ }
-    ensures { λ r. ⌜ (length r ≡ 1536) × TurnedTo (arcCount (now (arcs .entry))) (now (arcs .entry)) r ⌝ }
-{
-    let mut back = [0u32; ARC_NUMBERS];
-    let m = arcs.len() / 3;
-    let mut i = 0;
-    while i < m {
-        let at = i * 3;
-        back[at] = arcs[at + 1];
-        back[at + 1] = arcs[at];
-        back[at + 2] = arcs[at + 2];
-        i += 1;
-    }
-    back
-}
-
-// Leaves in `row` the least length from each node to `to`, clear of the forbidden items; MISSING above `cap`.
-pub fn row_to(nodes: usize, arcs: &[u32], marks: &[u8], to: usize, row: &mut [u32], cap: u32)
-    requires { ⌜ Proper (netOf nodes (now arcs) (now marks)) × (length (now arcs) ≤ 1536) ⌝ }
-    requires { ⌜ (length (now row) ≡ 64) × (to < nodes) × (cap < missing) ⌝ }
-    ensures { λ _. ⌜ RowTo (netOf nodes (now (arcs .entry)) (now (marks .entry))) cap to (now (row .exit)) ⌝ }
-{
-    let back = turned(arcs);
-    let n = arcs.len();
-    row_from(nodes, &back[..n], marks, to, row, cap);
 }
 
 // Settles the row of each start again, as `settle_row` does. Row `i` has the 64 numbers of the work from `i * 64` on.
@@ -230,15 +172,4 @@ pub fn settle_rows(arcs: &[u32], marks: &[u8], starts: &[usize], work: &mut [u32
         settle_row(arcs, marks, starts[i], &mut work[at..at + ROW_LENGTH], cap);
         i += 1;
     }
-}
-
-// Fills the row of each start, whatever the work held.
-pub fn fill_rows(arcs: &[u32], marks: &[u8], starts: &[usize], work: &mut [u32], cap: u32)
-    requires { ⌜ Joins 64 (now arcs) × StartsFit (now marks) (now starts) (now work) × (cap < missing) ⌝ }
-    ensures { λ _. ⌜ ((N : Net) → StartsOf N (now (arcs .entry)) (now (marks .entry)) (now (starts .entry)) → RowsAre N cap (now (starts .entry)) (length (now (starts .entry))) (now (work .exit))) ⌝ }
-    ensures { λ _. ⌜ drop (length (now (starts .entry)) * 64) (now (work .exit)) ≡ drop (length (now (starts .entry)) * 64) (now (work .entry)) ⌝ }
-{
-    let n = starts.len() * ROW_LENGTH;
-    fill(&mut work[..n], MISSING);
-    settle_rows(arcs, marks, starts, work, cap);
 }

@@ -47,10 +47,12 @@ fill-rows-requires : tie.Need-fill-rows-requires
 fill-rows-requires c κs =
     let s = c .before .before .before .before .before .before .before .before .before .before .before .before .before in
     let t = c .before .before .before .before .set-starts in
+    let p = c .before .before .before .before .before .before .before .pack in
     let N = netOf (s .args .q .nodes) (s .args .arcs .now) (s .args .marks .now) in (
       packed-joins (s .pre .0 .0) (c .before .before .before .before .before .before .before .pack .ensures .1),
       starts-fit N (s .args .q .from) (s .args .goals .now) (t .last .1 .1 .1 .1 .0) (t .ensures) (omega (arith, t .kept .1 .1 .1 .1 .0, s .pre .0 .1 .eight)) (s .args .work .now) (s .pre .0 .0) (s .pre .0 .1 .eight) (s .pre .1 .0),
       s .pre .1 .2,
+      omega (arith, length-take-le (p .result) (p .last .1 .1 .1 .0) (p .ensures .0), p .ensures .0, p .kept .1 .1 .1 .0),
     )
 
 same-length : tie.Need-same-length

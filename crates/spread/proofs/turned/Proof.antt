@@ -1,14 +1,15 @@
--- `rows::turned` meets its contract. Assumes nothing.
+-- `spread::turned` meets its contract. Assumes nothing.
 use borrow.Author.Needs.{needs}
 use mathlib.Core.Path.{_≡_, refl, _∙_, subst}
 use Prim.Native.Nat.{ℕ, _-_, _/_, _≤_}
 use native.Mathlib.Omega.{arith}
 use lib.ListN.{length}
-use Rattle.rows.proofs.TurnLaws.{turned-more}
 use Rattle.rows.proofs.ArcLaws.{written-long}
-use Rattle.rows.specs.Net.{TurnedTo, tailIn, headIn, weightIn}
-use Rattle.rows.proofs.turned.Statement.{statement}
-use Rattle.rows.proofs.turned.Tie as tie
+use Rattle.rows.specs.Net.{tailIn, headIn, weightIn}
+use Rattle.spread.proofs.TurnLaws.{turned-more}
+use Rattle.spread.specs.Arcs.{TurnedTo}
+use Rattle.spread.proofs.turned.Statement.{statement}
+use Rattle.spread.proofs.turned.Tie as tie
 
 abbrev Inv-loop : tie.InvT-loop
 Inv-loop arcs back₀ m i₀ back i = (i ≤ length arcs / 3) × (length back ≡ 1536) × TurnedTo i arcs back

@@ -1,12 +1,12 @@
--- `rows::row_to` meets its contract. Assumes nothing.
+-- `spread::row_to` meets its contract. Assumes nothing.
 use mathlib.Core.Path.{sym}
 use native.Mathlib.Omega.{arith}
 use lib.ListN.{length}
 use lib.Seq.{length-take-le}
-use Rattle.rows.proofs.TurnLaws.{turned-proper, row-to}
+use Rattle.spread.proofs.TurnLaws.{turned-proper, row-to}
 use borrow.Author.Needs.{needs}
-use Rattle.rows.proofs.row_to.Statement.{statement}
-use Rattle.rows.proofs.row_to.Tie as tie
+use Rattle.spread.proofs.row_to.Statement.{statement}
+use Rattle.spread.proofs.row_to.Tie as tie
 
 turned-requires : tie.Need-turned-requires
 turned-requires c κs = search needs

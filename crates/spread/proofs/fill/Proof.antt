@@ -1,13 +1,13 @@
--- `rows::fill` meets its contract. Assumes nothing.
+-- `spread::fill` meets its contract. Assumes nothing.
 use mathlib.Core.Path.{_≡_, refl, ap, _∙_}
 use mathlib.Core.List.{List, _++_}
 use Prim.Native.Nat.{ℕ, _-_, _≤_}
 use native.Mathlib.Omega.{arith}
 use lib.ListN.{length, set, drop, replicate, length-set}
 use borrow.Author.Fill.{fill-more}
-use Rattle.rows.proofs.RowLaws.{filled}
-use Rattle.rows.proofs.fill.Statement.{statement}
-use Rattle.rows.proofs.fill.Tie as tie
+use Rattle.spread.proofs.FillLaws.{filled}
+use Rattle.spread.proofs.fill.Statement.{statement}
+use Rattle.spread.proofs.fill.Tie as tie
 
 abbrev Inv-loop : tie.InvT-loop
 Inv-loop row₀ v i₀ row i = (i ≤ length row₀) × (row ≡ replicate i v ++ drop i row₀) × (length row ≡ length row₀)

@@ -6,12 +6,13 @@ use native.Mathlib.Omega.{arith}
 use lib.ListN.{length, getD, take}
 use lib.Seq.{getD-take, length-take-le}
 use borrow.Author.Count.{below-more}
+use Rattle.rows.proofs.ArcLaws.{written, written-before, written-tail, written-head, written-weight, arcs-count, tail-at, head-at, weight-at}
+use Rattle.rows.specs.Held.{held}
+use Rattle.rows.specs.Net.{Net, netOf, closed, count, tailIn, headIn, weightIn, tailAt, headAt, weightAt, Proper}
+use Rattle.rows.specs.Rows.{RowIs, RowTo}
 use Rattle.walks.proofs.BackLaws.{Turned, least-back}
 use Rattle.walks.specs.Flat.{arcsOf}
-use Rattle.rows.proofs.ArcLaws.{written, written-before, written-tail, written-head, written-weight, arcs-count, tail-at, head-at, weight-at}
-use Rattle.rows.specs.Held.{held}
-use Rattle.rows.specs.Net.{Net, netOf, closed, count, tailIn, headIn, weightIn, tailAt, headAt, weightAt, Proper, TurnedTo}
-use Rattle.rows.specs.Rows.{RowIs, RowTo}
+use Rattle.spread.specs.Arcs.{TurnedTo}
 
 -- arc i is written
 pub turned-more : (xs ys : List ℕ) (i : ℕ) → i * 3 + 2 < length ys → TurnedTo i xs ys → TurnedTo (i + 1) xs (written ys i (headIn xs i) (tailIn xs i) (weightIn xs i))

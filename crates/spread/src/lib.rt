@@ -1,0 +1,181 @@
+ghost use mathlib.Core.Path.{_≡_};
+ghost use Prim.Native.Nat.{ℕ, _*_, _≤_, _<_};
+ghost use lib.ListN.{length, replicate, drop};
+ghost use Rattle.rows.specs.Held.{missing};
+ghost use Rattle.rows.specs.Net.{Net, netOf, arcCount, Proper, Joins};
+ghost use Rattle.rows.specs.Rows.{RowIs, RowTo, Keeps, StartOf, StartsOf, StartsFit, RowsAre};
+ghost use Rattle.spread.specs.Arcs.{Chained, TurnedTo};
+
+// What a row holds where there is no way of at most the cap.
+const MISSING: u32 = 0xFFFF_FFFF;
+
+// The most numbers that the arcs take, three each.
+const ARC_NUMBERS: usize = 1536;
+
+// The numbers of a row, one for each node.
+const ROW_LENGTH: usize = 64;
+
+// The numbers of the arcs chained by their tails, one for each node and one for each arc.
+const CHAIN_NUMBERS: usize = 576;
+
+// Stores `v` in each entry.
+fn fill(row: &mut [u32], v: u32)
+    ensures { λ _. ⌜ now (row .exit) ≡ replicate (length (now (row .entry))) v ⌝ }
+{
+    let mut i = 0;
+    while i < row.len() {
+        row[i] = v;
+        i += 1;
+    }
+}
+
+// The arcs chained by their tails.
+fn chained(arcs: &[u32]) -> [u32; CHAIN_NUMBERS]
+    requires { ⌜ Joins 64 (now arcs) × (length (now arcs) ≤ 1536) ⌝ }
+    ensures { λ r. ⌜ Chained (arcCount (now (arcs .entry))) r ⌝ }
+{
+    let mut chains = [0u32; CHAIN_NUMBERS];
+    let m = arcs.len() / 3;
+    let mut i = 0;
+    while i < m {
+        let tail = arcs[i * 3] as usize;
+        chains[ROW_LENGTH + i] = chains[tail];
+        chains[tail] = i as u32 + 1;
+        i += 1;
+    }
+    chains
+}
+
+// Tries arc `i`. Its head is added to the nodes whose arcs are to be tried where its entry is cut.
+fn try_adding(arcs: &[u32], row: &mut [u32], i: usize, nodes: u64, cap: u32) -> u64
+    requires { ⌜ Joins 64 (now arcs) × (length (now row) ≡ 64) × (i < arcCount (now arcs)) ⌝ }
+    ensures { λ _. ⌜ Keeps cap (now (arcs .entry)) (now (row .entry)) (now (row .exit)) ⌝ }
+{
+    if rows::try_arc(arcs, row, i, cap) {
+        return nodes | 1u64 << arcs[i * 3 + 1];
+    }
+    nodes
+}
+
+// Tries the arcs that leave node `u`, if it is one of the nodes whose arcs are to be tried.
+fn spread_node(arcs: &[u32], chains: &[u32], row: &mut [u32], u: usize, nodes: u64, cap: u32) -> u64
+    requires { ⌜ Joins 64 (now arcs) × Chained (arcCount (now arcs)) (now chains) × (length (now row) ≡ 64) × (u < 64) ⌝ }
+    ensures { λ _. ⌜ Keeps cap (now (arcs .entry)) (now (row .entry)) (now (row .exit)) ⌝ }
+{
+    if (nodes >> u) % 2 == 0 {
+        return nodes;
+    }
+    let mut left = nodes ^ 1u64 << u;
+    let mut k = chains[u];
+    while k > 0 {
+        let i = k as usize - 1;
+        left = try_adding(arcs, row, i, left, cap);
+        k = chains[ROW_LENGTH + i];
+    }
+    left
+}
+
+// The same for each node in turn.
+fn spread_all(arcs: &[u32], chains: &[u32], row: &mut [u32], nodes: u64, cap: u32) -> u64
+    requires { ⌜ Joins 64 (now arcs) × Chained (arcCount (now arcs)) (now chains) × (length (now row) ≡ 64) ⌝ }
+    ensures { λ _. ⌜ Keeps cap (now (arcs .entry)) (now (row .entry)) (now (row .exit)) ⌝ }
+{
+    let mut left = nodes;
+    let mut u = 0;
+    while u < ROW_LENGTH {
+        left = spread_node(arcs, chains, row, u, left, cap);
+        u += 1;
+    }
+    left
+}
+
+// Tries arcs outward from `from`, each node's arcs again where its entry was cut. This alone leaves a row settled but for rare graphs; `settle` makes sure.
+fn spread_from(arcs: &[u32], chains: &[u32], row: &mut [u32], from: usize, cap: u32)
+    requires { ⌜ Joins 64 (now arcs) × Chained (arcCount (now arcs)) (now chains) × (length (now row) ≡ 64) × (from < 64) ⌝ }
+    ensures { λ _. ⌜ Keeps cap (now (arcs .entry)) (now (row .entry)) (now (row .exit)) ⌝ }
+{
+    let mut left = 1u64 << from;
+    let mut turn = 0;
+    while turn < ROW_LENGTH {
+        if left == 0 {
+            return;
+        }
+        left = spread_all(arcs, chains, row, left, cap);
+        turn += 1;
+    }
+}
+
+// The same for a row that holds anything.
+fn fill_row(arcs: &[u32], chains: &[u32], marks: &[u8], from: usize, row: &mut [u32], cap: u32)
+    requires { ⌜ Joins 64 (now arcs) × Chained (arcCount (now arcs)) (now chains) ⌝ }
+    requires { ⌜ (length (now row) ≡ 64) × (from < 64) × (from < length (now marks)) × (cap < missing) ⌝ }
+    ensures { λ _. ⌜ ((N : Net) → StartOf N (now (arcs .entry)) (now (marks .entry)) from → RowIs N cap from (now (row .exit))) ⌝ }
+{
+    fill(row, MISSING);
+    rows::start(marks, from, row);
+    spread_from(arcs, chains, row, from, cap);
+    rows::settle(arcs, row, cap);
+}
+
+// Leaves in `row` the least length from `from` to each node, clear of the forbidden items; MISSING above `cap`.
+pub fn row_from(nodes: usize, arcs: &[u32], marks: &[u8], from: usize, row: &mut [u32], cap: u32)
+    requires { ⌜ Proper (netOf nodes (now arcs) (now marks)) × (length (now arcs) ≤ 1536) ⌝ }
+    requires { ⌜ (length (now row) ≡ 64) × (from < nodes) × (cap < missing) ⌝ }
+    ensures { λ _. ⌜ RowIs (netOf nodes (now (arcs .entry)) (now (marks .entry))) cap from (now (row .exit)) ⌝ }
+{
+    let mut packed = [0u32; ARC_NUMBERS];
+    let n = rows::pack(nodes, arcs, marks, &mut packed);
+    let chains = chained(&packed[..n]);
+    fill_row(&packed[..n], &chains, marks, from, row, cap);
+}
+
+// The arcs with tail and head exchanged.
+fn turned(arcs: &[u32]) -> [u32; ARC_NUMBERS]
+    requires { ⌜ length (now arcs) ≤ 1536 ⌝ }
+    ensures { λ r. ⌜ (length r ≡ 1536) × TurnedTo (arcCount (now (arcs .entry))) (now (arcs .entry)) r ⌝ }
+{
+    let mut back = [0u32; ARC_NUMBERS];
+    let m = arcs.len() / 3;
+    let mut i = 0;
+    while i < m {
+        let at = i * 3;
+        back[at] = arcs[at + 1];
+        back[at + 1] = arcs[at];
+        back[at + 2] = arcs[at + 2];
+        i += 1;
+    }
+    back
+}
+
+// Leaves in `row` the least length from each node to `to`, clear of the forbidden items; MISSING above `cap`.
+pub fn row_to(nodes: usize, arcs: &[u32], marks: &[u8], to: usize, row: &mut [u32], cap: u32)
+    requires { ⌜ Proper (netOf nodes (now arcs) (now marks)) × (length (now arcs) ≤ 1536) ⌝ }
+    requires { ⌜ (length (now row) ≡ 64) × (to < nodes) × (cap < missing) ⌝ }
+    ensures { λ _. ⌜ RowTo (netOf nodes (now (arcs .entry)) (now (marks .entry))) cap to (now (row .exit)) ⌝ }
+{
+    let back = turned(arcs);
+    let n = arcs.len();
+    row_from(nodes, &back[..n], marks, to, row, cap);
+}
+
+// Fills the row of each start, whatever the work held.
+pub fn fill_rows(arcs: &[u32], marks: &[u8], starts: &[usize], work: &mut [u32], cap: u32)
+    requires { ⌜ Joins 64 (now arcs) × StartsFit (now marks) (now starts) (now work) × (cap < missing) × (length (now arcs) ≤ 1536) ⌝ }
+    ensures { λ _. ⌜ ((N : Net) → StartsOf N (now (arcs .entry)) (now (marks .entry)) (now (starts .entry)) → RowsAre N cap (now (starts .entry)) (length (now (starts .entry))) (now (work .exit))) ⌝ }
+    ensures { λ _. ⌜ drop (length (now (starts .entry)) * 64) (now (work .exit)) ≡ drop (length (now (starts .entry)) * 64) (now (work .entry)) ⌝ }
+{
+    let chains = chained(arcs);
+    let mut i = 0;
+    while i < starts.len() {
+        let at = i * ROW_LENGTH;
+        fill_row(
+            arcs,
+            &chains,
+            marks,
+            starts[i],
+            &mut work[at..at + ROW_LENGTH],
+            cap,
+        );
+        i += 1;
+    }
+}
