@@ -21,12 +21,12 @@ use Rattle.rows.specs.Held.{missing, held, code, atMost, kept}
 use Rattle.rows.specs.Net.{Net, netOf, arcCount, Proper, Packed}
 use Rattle.rows.specs.Rows.{RowsAre, StartsFit}
 use Rattle.rows.proofs.ArcLaws.{item-at, entry-below}
-use Rattle.lengths.specs.Table.{GoalsFit, Rowed, Noted}
-use Rattle.lengths.proofs.PartLaws.{rowed-of}
+use Rattle.lengths.specs.Table.{GoalsFit, StartsAre, Rowed, Noted}
+use Rattle.lengths.proofs.PartLaws.{rowed-of, front-count, front-starts}
 use Rattle.reopen.proofs.RowsOpened.{rows-same}
 use Rattle.reopen.proofs.PackOpened.{packed-whole}
 use Rattle.reopen.specs.Openings.{Opened, Beside, Reopened, ItemOpened, Unmoved}
-use Rattle.greedy.specs.Turns.{Setting, fitsAt, Ready, Judged, State, Turned}
+use Rattle.greedy.specs.Turns.{Setting, fitsAt, Ready, Judged, State, Turned, Begun}
 use Rattle.greedy.proofs.SameLaws.{Same, Alike, goals-same}
 
 -- a walk fits where the length that is held is at most the cap
@@ -259,3 +259,38 @@ module _ {n : ℕ} {xs : List ℕ} {to cap : ℕ} {goals starts marks packed : L
     };
     blocked = rw (closed-again marks i p) (T .blocked);
   }
+
+-- ready for the first turn
+pub begun : {n : ℕ} {xs marks : List ℕ} {from to cap : ℕ} {goals ss packed : List ℕ} {r : ℕ} (mid : List ℕ) {work : List ℕ} → Proper (netOf n xs marks)
+    → GoalsFit (netOf n xs marks) goals → to < n → cap < missing → StartsAre (graphOf n xs) from goals ss → length goals < length ss
+    → length packed ≡ 1536 → r ≤ length packed → Packed (netOf n xs marks) (take r packed)
+    → RowsAre (netOf n xs marks) cap (take (length goals + 1) ss) (length (take (length goals + 1) ss)) mid → Noted (netOf n xs marks) cap goals work
+    → take 576 work ≡ take 576 mid → Begun n xs marks from to cap goals (take (length goals + 1) ss) packed (r / 3) work
+begun {n} {xs} {marks} {from} {to} {cap} {goals} {ss} {packed} {r} mid {work} p g t small S l w h P R N e = record {
+  setting = record {
+    small = small;
+    few = p .few;
+    joins = λ i k. (p .tails i k, p .heads i k);
+    target = t;
+    eight = g .eight;
+    below = g .below;
+    distinct = g .distinct;
+    begin = record { source = refl; exits = front .exits; inside = front .inside };
+    counted = count;
+  };
+  source = front .source;
+  room = omega arith;
+  arcs = packed-whole packed r h P;
+  ready = record {
+    rows =
+        rows-same (netOf n xs marks) cap (take (length goals + 1) ss) (length (take (length goals + 1) ss)) mid work (p .few)
+        (λ j k. front-same 576 mid work e j (omega (arith, count, g .eight))) R;
+    noted = N;
+  };
+}
+  where
+    front : StartsAre (graphOf n xs) from goals (take (length goals + 1) ss)
+    front = front-starts (netOf n xs marks) from goals ss S l
+
+    count : length (take (length goals + 1) ss) ≡ length goals + 1
+    count = front-count (netOf n xs marks) from goals ss S l

@@ -25,6 +25,7 @@ const ARC_NUMBERS: usize = 1536;
 
 // The most rows, one from the source and one from where each of eight goals is left, and the numbers of a row.
 const ROWS: usize = 9;
+
 const ROW_LENGTH: usize = 64;
 
 // The numbers of the work that are used.
@@ -212,7 +213,15 @@ fn put_down(list: &mut [u32], n: usize, item: usize, listed: bool) -> usize
 }
 
 // Makes ready for the first turn: the starts of the rows, the open arcs, of which it gives the count, the rows, and the goals.
-fn begin(q: Query, arcs: &[u32], marks: &[u8], goals: &[usize], packed: &mut [u32], starts: &mut [usize], work: &mut [u32]) -> usize
+fn begin(
+    q: Query,
+    arcs: &[u32],
+    marks: &[u8],
+    goals: &[usize],
+    packed: &mut [u32],
+    starts: &mut [usize],
+    work: &mut [u32],
+) -> usize
     requires { ⌜ Proper (netOf (q .nodes) (now arcs) (now marks)) × GoalsFit (netOf (q .nodes) (now arcs) (now marks)) (now goals) × (length (now arcs) ≤ 1536) ⌝ }
     requires { ⌜ (length (now packed) ≡ 1536) × (length (now starts) ≡ 9) × (length (now work) ≡ 3648) ⌝ }
     requires { ⌜ (q .from < q .nodes) × (q .to < q .nodes) × (q .cap < missing) ⌝ }
@@ -223,7 +232,7 @@ fn begin(q: Query, arcs: &[u32], marks: &[u8], goals: &[usize], packed: &mut [u3
     lengths::set_starts(nodes, arcs, q.from, goals, starts);
     let n = rows::pack(nodes, arcs, marks, packed);
     let count = goals.len() + 1;
-    rows::fill_rows(&packed[..n], marks, &starts[..count], work, cap);
+    spread::fill_rows(&packed[..n], marks, &starts[..count], work, cap);
     lengths::note_goals(nodes, arcs, marks, goals, work, cap);
     n / 3
 }
