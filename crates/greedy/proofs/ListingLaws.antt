@@ -1,11 +1,10 @@
 -- The list as the loop makes it: what was listed of the items before i, put before the greedy list of the rest, is the whole. Assumes nothing.
-use Prim.Native.Nat.{ℕ, zero, suc, _+_, _-_, _≤_, _<_}
-use mathlib.Core.Path.{_≡_, refl, sym, ap, _∙_, subst}
-use mathlib.Core.Logic.{_⊎_, inl, inr}
-use mathlib.Core.Bool.{Bool, true, false, true≢false}
+use Prim.Native.Nat.{ℕ, suc, _+_, _-_, _≤_, _<_}
+use mathlib.Core.Path.{_≡_, refl, sym, ap, _∙_}
+use mathlib.Core.Bool.{true, false}
 use mathlib.Core.List.{List, [], _∷_, _++_, append-assoc, append-nil}
 use native.Mathlib.Omega.{arith}
-use lib.ListN.{length, drop, set, length-append, length-set}
+use lib.ListN.{length, drop, set, length-append}
 use lib.Seq.{drop-cons, set-append-seam}
 use Rattle.lists.specs.Lists.{front}
 use Rattle.walks.specs.Graph.{Graph, itemCount, closedIn, fits}

@@ -1,6 +1,6 @@
 -- An item is opened, with the rows settled again: where no entry that matters is another, no walk fits that did not before; else the table tells.
 -- Assumes nothing.
-use Prim.Native.Nat.{ℕ, zero, suc, _+_, _-_, _*_, _/_, _≤_, _<_}
+use Prim.Native.Nat.{ℕ, suc, _+_, _*_, _/_, _≤_, _<_}
 use mathlib.Core.Path.{_≡_, refl, sym, ap, _∙_, subst}
 use mathlib.Core.Logic.{_⊎_, inl, inr}
 use mathlib.Core.Bool.{Bool, true, false, not, true≢false}
@@ -8,8 +8,8 @@ use mathlib.Core.List.{List, [], _∷_}
 use native.Mathlib.Omega.{arith}
 use lib.ListN.{length, getD, take, drop, set, length-set}
 use lib.Seq.{getD-take, getD-drop, take-take, set-set, set-getD}
-use lib.Dec.{leb, ltb}
-use borrow.Author.Tests.{eqb-true, leb-true, leb-false, le-leb, lt-leb}
+use lib.Dec.{leb}
+use borrow.Author.Tests.{eqb-true, lt-leb}
 use Rattle.lists.specs.Lists.{member}
 use Rattle.lists.proofs.MemberLaws.{member-cases, member-none}
 use Rattle.walks.specs.Flat.{graphOf}
@@ -25,7 +25,7 @@ use Rattle.lengths.specs.Table.{GoalsFit, StartsAre, Rowed, Noted}
 use Rattle.lengths.proofs.PartLaws.{rowed-of, front-count, front-starts}
 use Rattle.reopen.proofs.RowsOpened.{rows-same}
 use Rattle.reopen.proofs.PackOpened.{packed-whole}
-use Rattle.reopen.specs.Openings.{Opened, Beside, Reopened, ItemOpened, Unmoved}
+use Rattle.reopen.specs.Openings.{Opened, Beside, Reopened, Unmoved}
 use Rattle.greedy.specs.Turns.{Setting, fitsAt, Ready, Judged, State, Turned, Begun}
 use Rattle.greedy.proofs.SameLaws.{Same, Alike, goals-same}
 

@@ -4,7 +4,7 @@ use mathlib.Core.Path.{_≡_}
 use mathlib.Core.Bool.{Bool, true, false, not}
 use mathlib.Core.List.{List}
 use lib.ListN.{length, getD, take, set}
-use Rattle.lists.specs.Lists.{Distinct, pick}
+use Rattle.lists.specs.Lists.{Distinct, pick, front}
 use Rattle.walks.specs.Flat.{graphOf}
 use Rattle.walks.specs.Graph.{closedIn, fits}
 use Rattle.rows.specs.Held.{missing}
@@ -66,3 +66,8 @@ pub record Begun (n : ℕ) (xs marks : List ℕ) (from to cap : ℕ) (goals star
   pub room : c * 3 ≤ 1536
   pub arcs : Packed (netOf n xs marks) (take (c * 3) packed)
   pub ready : Ready n xs marks cap goals starts work
+
+-- the items xs are written to the front of a list, and r is their count
+pub record Listed (xs list after : List ℕ) (r : ℕ) : Type 0 where
+  pub written : after ≡ front xs list
+  pub counted : r ≡ length xs

@@ -10,7 +10,7 @@ ghost use Rattle.explain.specs.Reasons.{reasons};
 ghost use Rattle.rows.specs.Held.{missing};
 ghost use Rattle.rows.specs.Net.{netOf, arcCount, Proper, Packed};
 ghost use Rattle.lengths.specs.Table.{GoalsFit, Rowed, Noted};
-ghost use Rattle.greedy.specs.Turns.{Setting, fitsAt, Ready, Judged, State, Turned, PutDown, Begun};
+ghost use Rattle.greedy.specs.Turns.{Setting, fitsAt, Ready, Judged, State, Turned, PutDown, Begun, Listed};
 use lengths::Query;
 use reopen::Opening;
 
@@ -235,4 +235,66 @@ fn begin(
     spread::fill_rows(&packed[..n], marks, &starts[..count], work, cap);
     lengths::note_goals(nodes, arcs, marks, goals, work, cap);
     n / 3
+}
+
+// Takes the items' turns in ascending order and writes the listed ones to the front of `list`. The marks are left with the opened items open.
+fn fill_list(
+    q: Query,
+    arcs: &[u32],
+    marks: &mut [u8],
+    goals: &[usize],
+    work: &mut [u32],
+    list: &mut [u32],
+) -> usize
+    requires { ⌜ Proper (netOf (q .nodes) (now arcs) (now marks)) × GoalsFit (netOf (q .nodes) (now arcs) (now marks)) (now goals) × (length (now arcs) ≤ 1536) ⌝ }
+    requires { ⌜ (length (now work) ≡ 3648) × (q .nodes + arcCount (now arcs) ≤ length (now list)) × (q .from < q .nodes) × (q .to < q .nodes) × (q .cap < missing) ⌝ }
+    requires { ⌜ fits (graphOf (q .nodes) (now arcs)) (q .from) (q .to) (q .cap) (closedIn (now marks)) (now goals) ≡ false ⌝ }
+    ensures { λ r. ⌜ Listed (reasons (graphOf (q .nodes) (now (arcs .entry))) (q .from) (q .to) (q .cap) (now (goals .entry)) (now (marks .entry))) (now (list .entry)) (now (list .exit)) r ⌝ }
+{
+    let nodes = q.nodes;
+    let to = q.to;
+    let cap = q.cap;
+    let mut packed = [0u32; ARC_NUMBERS];
+    let mut starts = [0usize; ROWS];
+    let mut count = begin(q, arcs, marks, goals, &mut packed, &mut starts, work);
+    let rows = goals.len() + 1;
+    let end = nodes + arcs.len() / 3;
+    let mut n = 0;
+    let mut i = 0;
+    while i < end {
+        let t = Turn {
+            nodes,
+            item: i,
+            to,
+            cap,
+            count,
+        };
+        let r = take_turn(t, arcs, marks, &mut packed, &starts[..rows], goals, work);
+        count = r.count;
+        n = put_down(list, n, i, r.listed);
+        i += 1;
+    }
+    n
+}
+
+// Writes the reason for the goals and the limit `cap`, from `from` to `to`, to the front of `list` and gives how many items it has: the greedy list of
+// document 01, 'Reasons'. No walk clear of the forbidden items meets the goals within the limit. The work is left with what was found; from its
+// number 16384 on it is as it was.
+pub fn list_reasons(
+    q: Query,
+    arcs: &[u32],
+    marks: &[u8],
+    goals: &[usize],
+    work: &mut [u32],
+    list: &mut [u32],
+) -> usize
+    requires { ⌜ Proper (netOf (q .nodes) (now arcs) (now marks)) × GoalsFit (netOf (q .nodes) (now arcs) (now marks)) (now goals) × (length (now arcs) ≤ 1536) × (length (now marks) ≤ 576) ⌝ }
+    requires { ⌜ (16384 ≤ length (now work)) × (q .nodes + arcCount (now arcs) ≤ length (now list)) × (q .from < q .nodes) × (q .to < q .nodes) × (q .cap < missing) ⌝ }
+    requires { ⌜ fits (graphOf (q .nodes) (now arcs)) (q .from) (q .to) (q .cap) (closedIn (now marks)) (now goals) ≡ false ⌝ }
+    ensures { λ _. ⌜ now (list .exit) ≡ front (reasons (graphOf (q .nodes) (now (arcs .entry))) (q .from) (q .to) (q .cap) (now (goals .entry)) (now (marks .entry))) (now (list .entry)) ⌝ }
+    ensures { λ r. ⌜ r ≡ length (reasons (graphOf (q .nodes) (now (arcs .entry))) (q .from) (q .to) (q .cap) (now (goals .entry)) (now (marks .entry))) ⌝ }
+    ensures { λ _. ⌜ drop 16384 (now (work .exit)) ≡ drop 16384 (now (work .entry)) ⌝ }
+{
+    let mut open = copied(marks);
+    fill_list(q, arcs, &mut open, goals, &mut work[..USED], list)
 }

@@ -1,23 +1,21 @@
 -- An arc is opened that can cut no entry of a row: the row holds the least lengths as before. For no other arc can either, since the lengths were
 -- least (`tight`), and a row of lengths of walks that no open arc can cut is least. Assumes nothing.
 use Prim.Native.Nat.{ℕ, _+_, _≤_, _<_}
-use mathlib.Core.Path.{_≡_, refl, sym, ap, _∙_, subst}
-use mathlib.Core.Logic.{_⊎_, inl, inr}
-use mathlib.Core.Bool.{Bool, true, false}
-use mathlib.Core.List.{List, [], _∷_}
+use mathlib.Core.Path.{_≡_, refl, sym, _∙_}
+use mathlib.Core.Bool.{false}
+use mathlib.Core.List.{List, []}
 use native.Mathlib.Omega.{arith}
 use native.Mathlib.Decide.{ℕ-discrete}
-use lib.ListN.{length, getD, set, length-set}
-use Rattle.walks.specs.Graph.{closedIn, len, fit, least}
+use lib.ListN.{getD, set, length-set}
+use Rattle.walks.specs.Graph.{closedIn, len, least}
 use Rattle.walks.specs.Lengths.{Least, none, some}
-use Rattle.walks.specs.Walk.{Walk}
 use Rattle.walks.proofs.Join.{meets-none}
 use Rattle.walks.proofs.LeastLaw.{Upto, is-least, walk-fit}
-use Rattle.rows.specs.Held.{missing, held}
+use Rattle.rows.specs.Held.{missing}
 use Rattle.rows.specs.Net.{Net, netOf, graph, closed, count, arcCount, tailIn, headIn, weightIn, tailAt, headAt, weightAt, Proper, Open, Packed}
 use Rattle.rows.specs.Rows.{RowIs, Way, Sound, Good, Tried, Settled, StartOf}
 use Rattle.rows.proofs.HeldLaws.{Held, low, high, holds, Above}
-use Rattle.rows.proofs.OpenLaws.{Opens, sound-opens, row-sound}
+use Rattle.rows.proofs.OpenLaws.{sound-opens, row-sound}
 use Rattle.rows.proofs.RowLaws.{way-more, row-is}
 use Rattle.reopen.specs.Openings.{ArcOpened as Opened}
 use Rattle.walks.proofs.OpenedLaws.{open-other, opens}

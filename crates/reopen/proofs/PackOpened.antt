@@ -1,6 +1,6 @@
 -- The list of open arcs once an arc is opened: it is put behind the others where its head is open, and else the list is as it was. Assumes nothing.
 use Prim.Native.Nat.{ℕ, _+_, _*_, _/_, _≤_, _<_}
-use mathlib.Core.Path.{_≡_, refl, sym, ap, _∙_}
+use mathlib.Core.Path.{_≡_, refl, sym, _∙_}
 use mathlib.Core.Bool.{true, false, true≢false}
 use mathlib.Core.List.{List}
 use native.Mathlib.Omega.{arith}
@@ -8,7 +8,7 @@ use native.Mathlib.Decide.{ℕ-discrete}
 use lib.ListN.{length, getD, take, set, length-set}
 use lib.Seq.{getD-take, length-take-le}
 use Rattle.walks.specs.Graph.{closedIn}
-use Rattle.rows.specs.Net.{Net, netOf, closed, count, arcCount, tailIn, headIn, weightIn, Proper, Open, SameArc, PackedTo, Packed}
+use Rattle.rows.specs.Net.{Net, netOf, count, arcCount, tailIn, headIn, weightIn, Proper, Open, SameArc, PackedTo, Packed}
 use Rattle.rows.proofs.ArcLaws.{written, written-before, written-tail, written-head, written-weight}
 use Rattle.rows.proofs.PackLaws.{pack-done}
 use Rattle.walks.proofs.OpenedLaws.{open-same, open-other, opens}

@@ -1,8 +1,7 @@
 -- `greedy::begin` meets its contract. Assumes nothing.
-use Prim.Native.Nat.{ℕ, _+_, _*_, _-_, _/_, _≤_, _<_}
-use mathlib.Core.Path.{_≡_, refl, sym, ap, _∙_}
+use mathlib.Core.Path.{sym, _∙_}
 use native.Mathlib.Omega.{arith}
-use lib.ListN.{length, take}
+use lib.ListN.{take}
 use lib.Seq.{length-take-le}
 use borrow.Author.Needs.{needs}
 use Rattle.rows.specs.Net.{netOf}
@@ -11,12 +10,6 @@ use Rattle.lengths.proofs.PartLaws.{front-count, starts-fit, starts-of}
 use Rattle.greedy.proofs.TurnLaws.{begun}
 use Rattle.greedy.proofs.begin.Statement.{statement}
 use Rattle.greedy.proofs.begin.Tie as tie
-use Rattle.greedy.proofs.begin.Reads as reads
-use Rattle.greedy.proofs.begin.Lts as lts
-use Rattle.lengths.proofs.note_goals.Reads as note-goals-reads
-use Rattle.lengths.proofs.set_starts.Reads as set-starts-reads
-use Rattle.rows.proofs.pack.Reads as pack-reads
-use Rattle.spread.proofs.fill_rows.Reads as fill-rows-reads
 
 set-starts-requires : tie.Need-set-starts-requires
 set-starts-requires c κs =

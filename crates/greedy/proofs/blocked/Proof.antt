@@ -1,19 +1,12 @@
 -- `greedy::blocked` meets its contract. Assumes nothing.
-use Prim.Native.Nat.{ℕ, _+_, _*_, _-_, _≤_, _<_}
-use mathlib.Core.Path.{_≡_, refl, sym, ap, _∙_}
-use mathlib.Core.Bool.{true≢false, false≢true}
+use Prim.Native.Nat.{_+_}
+use mathlib.Core.Path.{_∙_}
 use native.Mathlib.Omega.{arith}
-use lib.ListN.{length, getD, take, drop}
 use borrow.Author.Needs.{needs}
 use Rattle.rows.proofs.PackLaws.{packed-joins}
 use Rattle.greedy.proofs.TurnLaws.{set-proper, set-goals, set-fit, opening, judged-still, judged-unmoved, judged-asked}
 use Rattle.greedy.proofs.blocked.Statement.{statement}
 use Rattle.greedy.proofs.blocked.Tie as tie
-use Rattle.greedy.proofs.blocked.Reads as reads
-use Rattle.greedy.proofs.blocked.Lts as lts
-use Rattle.greedy.proofs.judge.Reads as judge-reads
-use Rattle.reopen.proofs.moved.Reads as moved-reads
-use Rattle.reopen.proofs.open_item.Reads as open-item-reads
 
 shared-slice-read-t12 : tie.Need-shared-slice-read-t12
 shared-slice-read-t12 c = search needs

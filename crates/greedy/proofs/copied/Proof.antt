@@ -1,9 +1,7 @@
 -- `greedy::copied` meets its contract: the entries below i are those of the marks, the others 0. Assumes nothing.
-use Prim.Native.Nat.{ℕ, _≤_, _<_, _-_}
-use mathlib.Core.Path.{_≡_, sym, _∙_}
-use native.Mathlib.Omega.{arith}
-use native.Mathlib.Decide.{decLt}
-use lib.ListN.{length, getD, length-set}
+use Prim.Native.Nat.{_≤_, _-_}
+use mathlib.Core.Path.{_≡_}
+use lib.ListN.{length}
 use Rattle.reopen.proofs.CopyLaws.{Copied, copied-none, copied-more, copied-all}
 use borrow.Author.Needs.{needs}
 use Rattle.greedy.proofs.copied.Statement.{statement}

@@ -1,9 +1,7 @@
 -- `greedy::fits_limit` meets its contract. Assumes nothing.
-use Prim.Native.Nat.{ℕ, _+_, _*_, _-_, _≤_, _<_}
-use mathlib.Core.Path.{_≡_, refl, sym, ap, _∙_}
-use mathlib.Core.Bool.{true≢false, false≢true}
+use Prim.Native.Nat.{ℕ}
+use mathlib.Core.Path.{refl, sym, ap, _∙_}
 use native.Mathlib.Omega.{arith}
-use lib.ListN.{length, getD, take, drop}
 use borrow.Author.Needs.{needs}
 use lib.Dec.{leb}
 use borrow.Author.Tests.{lt-leb, le-leb}
@@ -14,11 +12,6 @@ use Rattle.lengths.proofs.PartLaws.{table-room, filled-begun, rowed-kept, drop-
 use Rattle.greedy.proofs.TurnLaws.{fits-held, noted-kept, front-less}
 use Rattle.greedy.proofs.fits_limit.Statement.{statement}
 use Rattle.greedy.proofs.fits_limit.Tie as tie
-use Rattle.greedy.proofs.fits_limit.Reads as reads
-use Rattle.greedy.proofs.fits_limit.Lts as lts
-use Rattle.lengths.proofs.fill_table.Reads as fill-table-reads
-use Rattle.lengths.proofs.note_goals.Reads as note-goals-reads
-use Rattle.lengths.proofs.reach_goals.Reads as reach-goals-reads
 
 note-goals-requires : tie.Need-note-goals-requires
 note-goals-requires c κs = search needs

@@ -1,15 +1,12 @@
 -- `greedy::is_goal` meets its contract: none of the goals below i is the item. Assumes nothing.
-use Prim.Native.Nat.{ℕ, _+_, _*_, _-_, _≤_, _<_}
-use mathlib.Core.Path.{_≡_, refl, sym, ap, _∙_}
+use Prim.Native.Nat.{ℕ, _-_, _≤_, _<_}
+use mathlib.Core.Path.{_≡_}
 use native.Mathlib.Omega.{arith}
-use borrow.Author.Needs.{needs}
-use lib.ListN.{length, getD, length-set}
+use lib.ListN.{length, getD}
 use mathlib.Core.Bool.{true≢false}
 use borrow.Author.Count.{below-more}
 use Rattle.greedy.proofs.is_goal.Statement.{statement}
 use Rattle.greedy.proofs.is_goal.Tie as tie
-use Rattle.greedy.proofs.is_goal.Reads as reads
-use Rattle.greedy.proofs.is_goal.Lts as lts
 
 abbrev Inv-loop : tie.InvT-loop
 Inv-loop goals item i₀ i = (i ≤ length goals) × ((j : ℕ) → j < i → getD goals j 0 ≡ item → ⊥)

@@ -1,19 +1,12 @@
 -- `greedy::judge` meets its contract. Assumes nothing.
-use Prim.Native.Nat.{ℕ, _+_, _*_, _-_, _≤_, _<_}
-use mathlib.Core.Path.{_≡_, refl, sym, ap, _∙_}
+use Prim.Native.Nat.{_+_}
+use mathlib.Core.Path.{_∙_}
 use mathlib.Core.Bool.{true≢false, false≢true}
 use native.Mathlib.Omega.{arith}
-use lib.ListN.{length, getD, take, drop}
 use borrow.Author.Needs.{needs}
-use mathlib.Core.Bool.{not}
-use lib.Seq.{getD-drop}
 use Rattle.reopen.proofs.RowsOpened.{behind}
 use Rattle.greedy.proofs.judge.Statement.{statement}
 use Rattle.greedy.proofs.judge.Tie as tie
-use Rattle.greedy.proofs.judge.Reads as reads
-use Rattle.greedy.proofs.judge.Lts as lts
-use Rattle.greedy.proofs.fits_limit.Reads as fits-limit-reads
-use Rattle.reopen.proofs.restore.Reads as restore-reads
 
 fits-limit-requires : tie.Need-fits-limit-requires
 fits-limit-requires c κs = search needs

@@ -1,14 +1,9 @@
 -- `greedy::put_down` meets its contract. Assumes nothing.
-use Prim.Native.Nat.{ℕ, _+_, _*_, _-_, _/_, _≤_, _<_}
-use mathlib.Core.Path.{_≡_, refl, sym, ap, _∙_}
+use mathlib.Core.Path.{refl, sym, _∙_}
 use mathlib.Core.Bool.{true≢false, false≢true}
-use native.Mathlib.Omega.{arith}
-use lib.ListN.{length, getD, take, drop, set, length-set}
 use borrow.Author.Needs.{needs}
 use Rattle.greedy.proofs.put_down.Statement.{statement}
 use Rattle.greedy.proofs.put_down.Tie as tie
-use Rattle.greedy.proofs.put_down.Reads as reads
-use Rattle.greedy.proofs.put_down.Lts as lts
 
 cast-list : tie.Need-cast-list
 cast-list c = search needs

@@ -1,9 +1,7 @@
 -- `greedy::take_turn` meets its contract. Assumes nothing.
-use Prim.Native.Nat.{ℕ, _+_, _*_, _-_, _/_, _≤_, _<_}
-use mathlib.Core.Path.{_≡_, refl, sym, ap, _∙_}
-use mathlib.Core.Bool.{true≢false, false≢true}
+use Prim.Native.Nat.{_*_}
+use mathlib.Core.Path.{_≡_, refl, sym, _∙_}
 use native.Mathlib.Omega.{arith}
-use lib.ListN.{length, getD, take, drop, set, length-set}
 use borrow.Author.Needs.{needs}
 use lib.Seq.{length-take-le}
 use borrow.Author.Tests.{eq-eqb, ne-eqb}
@@ -12,13 +10,6 @@ use mathlib.Core.Bool.{true}
 use Rattle.greedy.proofs.TurnLaws.{set-goals, opened-proper, again-proper, entries-below, turn-passed, turn-opened, turn-listed, state-opened, state-listed}
 use Rattle.greedy.proofs.take_turn.Statement.{statement}
 use Rattle.greedy.proofs.take_turn.Tie as tie
-use Rattle.greedy.proofs.take_turn.Reads as reads
-use Rattle.greedy.proofs.take_turn.Lts as lts
-use Rattle.greedy.proofs.blocked.Reads as blocked-reads
-use Rattle.greedy.proofs.is_goal.Reads as is-goal-reads
-use Rattle.lengths.proofs.note_goals.Reads as note-goals-reads
-use Rattle.reopen.proofs.pack_opened.Reads as pack-opened-reads
-use Rattle.rows.proofs.pack.Reads as pack-reads
 
 slice-read-if1 : tie.Need-slice-read-if1
 slice-read-if1 c = search needs

@@ -1,15 +1,11 @@
 -- `reopen::add_arc` meets its contract. Assumes nothing.
-use Prim.Native.Nat.{ℕ, _+_, _*_, _-_, _≤_, _<_}
-use mathlib.Core.Path.{_≡_, refl, sym, ap, _∙_}
 use native.Mathlib.Omega.{arith}
 use borrow.Author.Needs.{needs}
-use lib.ListN.{length, getD, length-set}
-use borrow.Author.Tests.{eqb-false, ne-eqb, eq-eqb}
+use lib.ListN.{length-set}
+use borrow.Author.Tests.{ne-eqb, eq-eqb}
 use Rattle.reopen.proofs.PackOpened.{add-none, add-one}
 use Rattle.reopen.proofs.add_arc.Statement.{statement}
 use Rattle.reopen.proofs.add_arc.Tie as tie
-use Rattle.reopen.proofs.add_arc.Reads as reads
-use Rattle.reopen.proofs.add_arc.Lts as lts
 
 mul-at : tie.Need-mul-at
 mul-at c = search needs

@@ -1,16 +1,12 @@
 -- `reopen::cuts_any` meets its contract: none of the rows below i can be cut. Assumes nothing.
-use Prim.Native.Nat.{ℕ, _≤_, _-_}
+use Prim.Native.Nat.{_≤_, _-_}
 use native.Mathlib.Omega.{arith}
 use mathlib.Core.Bool.{true≢false}
 use borrow.Author.Count.{below-more}
-use borrow.Author.Needs.{needs}
 use Rattle.reopen.specs.Openings.{Untouched}
 use Rattle.reopen.proofs.PartLaws.{part-row, part-length}
 use Rattle.reopen.proofs.cuts_any.Statement.{statement}
 use Rattle.reopen.proofs.cuts_any.Tie as tie
-use Rattle.reopen.proofs.cuts_any.Reads as reads
-use Rattle.reopen.proofs.cuts_any.Lts as lts
-use Rattle.reopen.proofs.cuts.Reads as cuts-reads
 
 abbrev Inv-loop : tie.InvT-loop
 Inv-loop work rows arc cap i₀ i = (i ≤ rows) × Untouched cap work i (arc .tail) (arc .head) (arc .weight)

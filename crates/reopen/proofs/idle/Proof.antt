@@ -5,9 +5,6 @@ use borrow.Author.Tests.{eq-eqb}
 use borrow.Author.Needs.{needs}
 use Rattle.reopen.proofs.idle.Statement.{statement}
 use Rattle.reopen.proofs.idle.Tie as tie
-use Rattle.reopen.proofs.idle.Reads as reads
-use Rattle.reopen.proofs.idle.Lts as lts
-use Rattle.reopen.proofs.cuts_any.Reads as cuts-any-reads
 
 shared-slice-read-if1 : tie.Need-shared-slice-read-if1
 shared-slice-read-if1 c = search needs

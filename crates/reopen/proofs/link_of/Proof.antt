@@ -1,13 +1,9 @@
 -- `reopen::link_of` meets its contract. Assumes nothing.
-use Prim.Native.Nat.{ℕ, _+_, _*_, _-_, _≤_, _<_}
-use mathlib.Core.Path.{_≡_, refl, sym, ap, _∙_}
+use Prim.Native.Nat.{_+_, _*_}
 use native.Mathlib.Omega.{arith}
 use borrow.Author.Needs.{needs}
-use lib.ListN.{length, getD, length-set}
 use Rattle.reopen.proofs.link_of.Statement.{statement}
 use Rattle.reopen.proofs.link_of.Tie as tie
-use Rattle.reopen.proofs.link_of.Reads as reads
-use Rattle.reopen.proofs.link_of.Lts as lts
 
 mul-at : tie.Need-mul-at
 mul-at c = search needs

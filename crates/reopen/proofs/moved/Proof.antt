@@ -1,16 +1,12 @@
 -- `reopen::moved` meets its contract: the rows below i have the same entries as the kept ones where they matter. Assumes nothing.
-use Prim.Native.Nat.{ℕ, _+_, _*_, _-_, _/_, _≤_, _<_}
-use mathlib.Core.Path.{_≡_, refl, sym, ap, _∙_}
+use Prim.Native.Nat.{_+_, _*_, _-_, _≤_}
+use mathlib.Core.Path.{_≡_}
 use mathlib.Core.Bool.{true≢false}
 use native.Mathlib.Omega.{arith}
-use lib.ListN.{length, getD, set, length-set}
 use Rattle.reopen.specs.Openings.{Unmoved}
 use Rattle.reopen.proofs.PartLaws.{part-long, stops-below, moved-more}
 use Rattle.reopen.proofs.moved.Statement.{statement}
 use Rattle.reopen.proofs.moved.Tie as tie
-use Rattle.reopen.proofs.moved.Reads as reads
-use Rattle.reopen.proofs.moved.Lts as lts
-use Rattle.reopen.proofs.moved_row.Reads as moved-row-reads
 
 abbrev Inv-loop : tie.InvT-loop
 Inv-loop work rows count to i₀ i = (i ≤ rows) × Unmoved work i count to

@@ -1,16 +1,12 @@
 -- `reopen::moved_row` meets its contract: the stops below i have the same entry in both rows. Assumes nothing.
-use Prim.Native.Nat.{ℕ, _+_, _*_, _-_, _≤_, _<_}
-use mathlib.Core.Path.{_≡_, refl, sym, ap, _∙_}
+use Prim.Native.Nat.{_-_, _≤_}
 use native.Mathlib.Omega.{arith}
-use borrow.Author.Needs.{needs}
-use lib.ListN.{length, getD, length-set}
+use lib.ListN.{length}
 use mathlib.Core.Bool.{true≢false}
 use borrow.Author.Count.{below-more}
 use Rattle.reopen.specs.Openings.{UnmovedRow}
 use Rattle.reopen.proofs.moved_row.Statement.{statement}
 use Rattle.reopen.proofs.moved_row.Tie as tie
-use Rattle.reopen.proofs.moved_row.Reads as reads
-use Rattle.reopen.proofs.moved_row.Lts as lts
 
 abbrev Inv-loop : tie.InvT-loop
 Inv-loop old row stops i₀ i = (i ≤ length stops) × UnmovedRow old row stops i

@@ -1,17 +1,9 @@
 -- `reopen::open_arc` meets its contract. Assumes nothing.
-use Prim.Native.Nat.{ℕ, _+_, _*_, _-_, _≤_, _<_}
-use mathlib.Core.Path.{_≡_, refl, sym, ap, _∙_, subst}
 use native.Mathlib.Omega.{arith}
 use borrow.Author.Needs.{needs}
-use lib.ListN.{length, getD, drop}
-use Rattle.rows.specs.Net.{netOf}
 use Rattle.reopen.proofs.RowsOpened.{kept-rows, beside, reopened, opened-arc}
 use Rattle.reopen.proofs.open_arc.Statement.{statement}
 use Rattle.reopen.proofs.open_arc.Tie as tie
-use Rattle.reopen.proofs.open_arc.Reads as reads
-use Rattle.reopen.proofs.open_arc.Lts as lts
-use Rattle.reopen.proofs.save.Reads as save-reads
-use Rattle.reopen.proofs.settle_cut.Reads as settle-cut-reads
 
 mul-save : tie.Need-mul-save
 mul-save c = search needs

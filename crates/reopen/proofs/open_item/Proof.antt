@@ -1,18 +1,11 @@
 -- `reopen::open_item` meets its contract. Assumes nothing.
-use Prim.Native.Nat.{ℕ, _+_, _-_, _*_, _≤_, _<_}
-use mathlib.Core.Path.{_≡_, refl, sym, _∙_}
+use Prim.Native.Nat.{_-_, _<_}
 use native.Mathlib.Omega.{arith}
 use borrow.Author.Needs.{needs}
 use Rattle.rows.specs.Net.{arcCount}
 use Rattle.reopen.proofs.RowsOpened.{item-changed, arc-changed, arc-still}
 use Rattle.reopen.proofs.open_item.Statement.{statement}
 use Rattle.reopen.proofs.open_item.Tie as tie
-use Rattle.reopen.proofs.open_item.Reads as reads
-use Rattle.reopen.proofs.open_item.Lts as lts
-use Rattle.reopen.proofs.idle.Reads as idle-reads
-use Rattle.reopen.proofs.link_of.Reads as link-of-reads
-use Rattle.reopen.proofs.open_arc.Reads as open-arc-reads
-use Rattle.reopen.proofs.open_node.Reads as open-node-reads
 
 open-node-requires : tie.Need-open-node-requires
 open-node-requires c κs = search needs

@@ -1,17 +1,10 @@
 -- `reopen::open_node` meets its contract. Assumes nothing.
-use Prim.Native.Nat.{ℕ, _+_, _*_, _-_, _≤_, _<_}
-use mathlib.Core.Path.{_≡_, refl, sym, ap, _∙_, subst}
 use native.Mathlib.Omega.{arith}
 use borrow.Author.Needs.{needs}
-use lib.ListN.{length, getD, drop}
 use Rattle.rows.specs.Net.{netOf}
 use Rattle.reopen.proofs.RowsOpened.{kept-rows, beside, reopened, opened-starts, opened-sound}
 use Rattle.reopen.proofs.open_node.Statement.{statement}
 use Rattle.reopen.proofs.open_node.Tie as tie
-use Rattle.reopen.proofs.open_node.Reads as reads
-use Rattle.reopen.proofs.open_node.Lts as lts
-use Rattle.reopen.proofs.save.Reads as save-reads
-use Rattle.rows.proofs.settle_rows.Reads as settle-rows-reads
 
 mul-save : tie.Need-mul-save
 mul-save c = search needs

@@ -1,16 +1,12 @@
 -- `reopen::pack_opened` meets its contract. Assumes nothing.
-use Prim.Native.Nat.{ℕ, _+_, _*_, _-_, _/_, _≤_, _<_}
-use mathlib.Core.Path.{_≡_, refl, sym, ap, _∙_}
+use Prim.Native.Nat.{ℕ, _+_, _-_}
+use mathlib.Core.Path.{_≡_, sym, ap, _∙_}
 use native.Mathlib.Omega.{arith}
 use borrow.Author.Needs.{needs}
-use lib.ListN.{length, getD, set, length-set}
+use lib.ListN.{set}
 use Rattle.reopen.proofs.PackOpened.{packed-whole}
 use Rattle.reopen.proofs.pack_opened.Statement.{statement}
 use Rattle.reopen.proofs.pack_opened.Tie as tie
-use Rattle.reopen.proofs.pack_opened.Reads as reads
-use Rattle.reopen.proofs.pack_opened.Lts as lts
-use Rattle.reopen.proofs.add_arc.Reads as add-arc-reads
-use Rattle.rows.proofs.pack.Reads as pack-reads
 
 mul-if2 : tie.Need-mul-if2
 mul-if2 c = search needs

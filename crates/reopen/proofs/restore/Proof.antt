@@ -1,14 +1,11 @@
 -- `reopen::restore` meets its contract. Assumes nothing.
-use Prim.Native.Nat.{ℕ, _+_, _*_, _-_, _≤_, _<_}
-use mathlib.Core.Path.{_≡_, refl, sym, ap, _∙_}
+use Prim.Native.Nat.{_-_, _≤_}
+use mathlib.Core.Path.{_≡_, refl}
 use native.Mathlib.Omega.{arith}
-use borrow.Author.Needs.{needs}
-use lib.ListN.{length, getD, length-set}
+use lib.ListN.{length, length-set}
 use Rattle.reopen.proofs.CopyLaws.{RestoredTo, restore-more}
 use Rattle.reopen.proofs.restore.Statement.{statement}
 use Rattle.reopen.proofs.restore.Tie as tie
-use Rattle.reopen.proofs.restore.Reads as reads
-use Rattle.reopen.proofs.restore.Lts as lts
 
 abbrev Inv-loop : tie.InvT-loop
 Inv-loop work₀ n i₀ work i = (i ≤ n) × (length work ≡ length work₀) × RestoredTo work₀ i work

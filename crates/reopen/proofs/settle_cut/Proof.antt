@@ -1,9 +1,8 @@
 -- `reopen::settle_cut` meets its contract. The loop's invariant: the rows before `i` hold the new least lengths, and the work from row `i` on is as it was. Assumes nothing.
 use Prim.Native.Nat.{ℕ, _+_, _*_, _-_, _≤_, _<_}
-use mathlib.Core.Path.{_≡_, refl, sym, ap, _∙_, subst}
+use mathlib.Core.Path.{_≡_, refl, ap, _∙_, subst}
 use mathlib.Core.List.{List}
 use native.Mathlib.Omega.{arith}
-use borrow.Author.Needs.{needs}
 use lib.ListN.{length, getD, drop}
 use borrow.Rule.Slice.PartMut.{mid-len, same-len-mid, postOf}
 use Rattle.rows.specs.Net.{netOf}
@@ -13,9 +12,6 @@ use Rattle.reopen.specs.Openings.{ArcOpened}
 use Rattle.reopen.proofs.RowsOpened.{row-of}
 use Rattle.reopen.proofs.settle_cut.Statement.{statement}
 use Rattle.reopen.proofs.settle_cut.Tie as tie
-use Rattle.reopen.proofs.settle_cut.Reads as reads
-use Rattle.reopen.proofs.settle_cut.Lts as lts
-use Rattle.reopen.proofs.settle_cut_row.Reads as settle-cut-row-reads
 
 abbrev Inv-loop : tie.InvT-loop
 Inv-loop packed marks starts work₀ arc cap i₀ work i =

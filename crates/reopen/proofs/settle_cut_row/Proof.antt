@@ -1,16 +1,8 @@
 -- `reopen::settle_cut_row` meets its contract. Assumes nothing.
-use Prim.Native.Nat.{ℕ, _+_, _*_, _-_, _≤_, _<_}
-use mathlib.Core.Path.{_≡_, refl, sym, ap, _∙_}
-use native.Mathlib.Omega.{arith}
 use borrow.Author.Needs.{needs}
-use lib.ListN.{length, getD, length-set}
 use Rattle.reopen.proofs.ArcOpened.{arc-start, arc-sound, arc-kept}
 use Rattle.reopen.proofs.settle_cut_row.Statement.{statement}
 use Rattle.reopen.proofs.settle_cut_row.Tie as tie
-use Rattle.reopen.proofs.settle_cut_row.Reads as reads
-use Rattle.reopen.proofs.settle_cut_row.Lts as lts
-use Rattle.reopen.proofs.cuts.Reads as cuts-reads
-use Rattle.rows.proofs.settle_row.Reads as settle-row-reads
 
 cuts-requires : tie.Need-cuts-requires
 cuts-requires c κs = search needs
