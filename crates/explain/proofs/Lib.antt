@@ -1,2 +1,1 @@
-pub mod OpenedLaws
 pub mod ReasonLaws

@@ -7,6 +7,7 @@ use mathlib.Core.Logic.{_⊎_, inl, inr, _≢_}
 use mathlib.Core.Bool.{Bool, true, false, not, _&&_, _||_, true≢false}
 use mathlib.Core.List.{List, [], _∷_}
 use native.Mathlib.Omega.{arith}
+use native.Mathlib.Decide.{ℕ-discrete}
 use lib.ListN.{set}
 use lib.Dec.{eqb, ltb}
 use borrow.Author.Tests.{eqb-true, eqb-false, eq-eqb, ne-eqb, ltb-true, lt-ltb, le-ltb}
@@ -17,7 +18,7 @@ use Rattle.walks.specs.Graph.{Graph, itemCount, closedIn, fits}
 use Rattle.walks.specs.Walk.{SomeWalk, NoWalk}
 use Rattle.walks.proofs.FitsLaws.{Narrower, fits-some, fits-none, fits-mono, fits-anti}
 use Rattle.explain.specs.Reasons.{greedy, reasons, but}
-use Rattle.explain.proofs.OpenedLaws.{open-other, open-closed}
+use Rattle.walks.proofs.OpenedLaws.{open-same, open-other, open-closed}
 
 but-cases : (c : ℕ → Bool) (r j : ℕ) → but c r j ≡ true → (c j ≡ true) × (j ≡ r → ⊥)
 unfolding but
@@ -236,6 +237,53 @@ module _ (G : Graph) (s t k : ℕ) (goals : List ℕ) where
   unfolding greedy
   minimal zero i marks r m = absurd (member-none r m)
   minimal (suc c) i marks r m = minimal-turn c i marks (turn c i marks) (λ marks′. minimal c (suc i) marks′) r m
+
+-- marks that close the same items give the same list
+module _ (G : Graph) (s t k : ℕ) (goals : List ℕ) where
+  step-passed : (c i : ℕ) (marks : List ℕ) → closedIn marks i ≡ false → greedy G s t k goals (suc c) i marks ≡ greedy G s t k goals c (suc i) marks
+  unfolding greedy
+  step-passed c i marks p = rw (p, greedy)
+
+  step-listed : (c i : ℕ) (marks : List ℕ) → closedIn marks i ≡ true → fits G s t k (closedIn (set marks i 0)) goals ≡ true
+      → greedy G s t k goals (suc c) i marks ≡ i ∷ greedy G s t k goals c (suc i) marks
+  unfolding greedy
+  step-listed c i marks p q = rw (p, q, greedy)
+
+  step-opened : (c i : ℕ) (marks : List ℕ) → closedIn marks i ≡ true → fits G s t k (closedIn (set marks i 0)) goals ≡ false
+      → greedy G s t k goals (suc c) i marks ≡ greedy G s t k goals c (suc i) (set marks i 0)
+  unfolding greedy
+  step-opened c i marks p q = rw (p, q, greedy)
+
+  opened-alike : (marks marks′ : List ℕ) (i : ℕ) → ((j : ℕ) → closedIn marks j ≡ closedIn marks′ j)
+      → (j : ℕ) → closedIn (set marks i 0) j ≡ closedIn (set marks′ i 0) j
+  opened-alike marks marks′ i e j = go (ℕ-discrete j i)
+    where
+      go : Dec (j ≡ i) → closedIn (set marks i 0) j ≡ closedIn (set marks′ i 0) j
+      go (yes q) = rw q (open-same marks i ∙ sym (open-same marks′ i))
+      go (no q) = open-other marks i j q ∙ e j ∙ sym (open-other marks′ i j q)
+
+  greedy-alike : (c i : ℕ) (marks marks′ : List ℕ) → ((j : ℕ) → closedIn marks j ≡ closedIn marks′ j)
+      → greedy G s t k goals c i marks ≡ greedy G s t k goals c i marks′
+  unfolding greedy
+  greedy-alike zero i marks marks′ e = refl
+  greedy-alike (suc c) i marks marks′ e = go (closedIn marks i) refl (fits G s t k (closedIn (set marks i 0)) goals) refl (greedy-alike c (suc i))
+    where
+      same : fits G s t k (closedIn (set marks i 0)) goals ≡ fits G s t k (closedIn (set marks′ i 0)) goals
+      same = ap (λ (f : ℕ → Bool). fits G s t k f goals) (fun-ext (opened-alike marks marks′ i e))
+
+      go : (b : Bool) → closedIn marks i ≡ b → (f : Bool) → fits G s t k (closedIn (set marks i 0)) goals ≡ f
+          → ((ms ms′ : List ℕ) → ((j : ℕ) → closedIn ms j ≡ closedIn ms′ j) → greedy G s t k goals c (suc i) ms ≡ greedy G s t k goals c (suc i) ms′)
+          → greedy G s t k goals (suc c) i marks ≡ greedy G s t k goals (suc c) i marks′
+      go false p f q ih = step-passed c i marks p ∙ ih marks marks′ e ∙ sym (step-passed c i marks′ (sym (e i) ∙ p))
+      go true p true q ih =
+          step-listed c i marks p q ∙ ap (i ∷_) (ih marks marks′ e) ∙ sym (step-listed c i marks′ (sym (e i) ∙ p) (sym same ∙ q))
+      go true p false q ih =
+          step-opened c i marks p q ∙ ih (set marks i 0) (set marks′ i 0) (opened-alike marks marks′ i e)
+          ∙ sym (step-opened c i marks′ (sym (e i) ∙ p) (sym same ∙ q))
+
+  pub reasons-alike : (marks marks′ : List ℕ) → ((j : ℕ) → closedIn marks j ≡ closedIn marks′ j) → reasons G s t k goals marks ≡ reasons G s t k goals marks′
+  unfolding reasons
+  reasons-alike marks marks′ e = greedy-alike (itemCount G) 0 marks marks′ e
 
 -- the laws of the whole list
 module _ (G : Graph) (s t k : ℕ) (goals marks : List ℕ) where

@@ -1,1 +1,1 @@
-// The code comes with the next pieces; the definitions and laws are in specs/ and proofs/.
+// The definitions and laws are in specs/ and proofs/; the code that makes the list is in crate `greedy`.

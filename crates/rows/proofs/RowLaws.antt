@@ -31,7 +31,7 @@ pub falls : (d : List ℕ) (v x o : ℕ) → v < length d → x < getD d v 0 →
 falls d v x o h lt le = omega (arith, total-set d v x h)
 
 -- a walk, and one open arc more
-way-more : (N : Net) (s i k : ℕ) → Proper N → i < count N → Open N i → Way N s (tailAt N i) k → Way N s (headAt N i) (k + weightAt N i)
+pub way-more : (N : Net) (s i k : ℕ) → Proper N → i < count N → Open N i → Way N s (tailAt N i) k → Way N s (headAt N i) (k + weightAt N i)
 unfolding arcItem len
 way-more N s i k p h o W =
     let z = walk-last (graph N) (closed N) s (tailAt N i) (W .0) (W .1) in

@@ -7,3 +7,4 @@ pub mod Through
 pub mod FitsLaws
 pub mod Bound
 pub mod FlatLaws
+pub mod OpenedLaws

@@ -1,0 +1,4 @@
+pub mod SameLaws
+pub mod ListingLaws
+pub mod TurnLaws
+pub mod ListedLaws

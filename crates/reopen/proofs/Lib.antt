@@ -1,0 +1,5 @@
+pub mod CopyLaws
+pub mod PartLaws
+pub mod PackOpened
+pub mod ArcOpened
+pub mod RowsOpened
