@@ -28,6 +28,12 @@ use Rattle.judge.specs.Ready.{Whole, Judged}
 pub items-are : {h : Header} {arcs marks : List ℕ} → Whole h arcs marks → itemCount (graphOf (h .nodes) arcs) ≡ h .nodes + h .arcs
 items-are {h} {arcs} W = let e = arcs-count arcs in omega (arith, e, W .held .0)
 
+-- an entry of a list of small numbers
+pub goals-at : (n i : ℕ) (xs : List ℕ) → Below n xs → i < length xs → getD xs i 0 < n
+goals-at n i [] b l = absurd (omega arith)
+goals-at n zero (x ∷ xs) b l = b .0
+goals-at n (suc i) (x ∷ xs) b l = goals-at n i xs (b .1) (omega arith)
+
 module _ {h : Header} {arcs marks : List ℕ} (W : Whole h arcs marks) where
   abbrev S : Sheet
   S = sheetOf h arcs marks
@@ -64,11 +70,6 @@ module _ {h : Header} {arcs marks : List ℕ} (W : Whole h arcs marks) where
           let m = keep-member missed x (allItems (graphOf (h .nodes) arcs)) (rw q (member-head x xs)) in
           let s = span-member (itemCount (graphOf (h .nodes) arcs)) 0 x (m .0) in
           absurd (omega (arith, s .1, items-are W, z))
-
-  goals-at : (n i : ℕ) (xs : List ℕ) → Below n xs → i < length xs → getD xs i 0 < n
-  goals-at n i [] b l = absurd (omega arith)
-  goals-at n zero (x ∷ xs) b l = b .0
-  goals-at n (suc i) (x ∷ xs) b l = goals-at n i xs (b .1) (omega arith)
 
   -- the required nodes as goals
   pub required-fit : GoalsFit (netOf (h .nodes) arcs marks) (required (sheetOf h arcs marks))

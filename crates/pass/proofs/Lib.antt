@@ -1,2 +1,3 @@
 pub mod SlipLaws
 pub mod PassLaws
+pub mod AnswerLaws

@@ -1,13 +1,40 @@
 // The pass (document 01): strikes off what no walk within the limit can use, or refuses the round and lists the closures to blame.
 ghost use mathlib.Core.Path.{_≡_};
+ghost use mathlib.Core.Bool.{false};
 ghost use mathlib.Core.List.{_∷_};
-ghost use Prim.Native.Nat.{_+_, _≤_};
-ghost use lib.ListN.{length, drop};
+ghost use Prim.Native.Nat.{_+_, _*_, _≤_};
+ghost use lib.ListN.{length, take, drop};
 ghost use Rattle.lists.specs.Lists.{front};
-ghost use Rattle.verdict.specs.Verdict.{newMarks};
+ghost use Rattle.rows.specs.Net.{netOf};
+ghost use Rattle.lengths.specs.Table.{GoalsFit};
+ghost use Rattle.verdict.specs.Verdict.{fitsSheet, newMarks, reasonsFor, passSlip, verdict as verdictOf};
+ghost use Rattle.verdict.specs.Pass.{passed};
 ghost use Rattle.reader.specs.Answer.{sheetOf};
-ghost use Rattle.judge.specs.Ready.{Rows};
+ghost use Rattle.judge.specs.Ready.{Whole, Rows};
+use lengths::Query;
+use reader::SheetRead;
 use sections::Header;
+
+// What an operation asks for: so many work numbers, and a slip of so many bytes.
+pub const WORK_NUMBERS: usize = 16384;
+
+pub const SLIP_BYTES: usize = 1200;
+
+// The most numbers of a sheet's arcs, three each, and the most items.
+pub const ARC_NUMBERS: usize = 1536;
+
+pub const ITEMS: usize = 576;
+
+// The numbers of a row, and of the two rows by which a sheet is judged.
+const TWO_ROWS: usize = 128;
+
+const ROW_LENGTH: usize = 64;
+
+// What pass and reason answer: the refusal number, 0 where the call finished, and the slip's length.
+pub struct Answer {
+    pub number: u32,
+    pub length: usize,
+}
 
 // Writes the slip of verdict 0, the number 0 and the new marks, over the front of `slip` and gives its length.
 fn write_stands(header: Header, arcs: &[u32], marks: &[u8], rows: &[u32], slip: &mut [u8]) -> usize
@@ -18,4 +45,64 @@ fn write_stands(header: Header, arcs: &[u32], marks: &[u8], rows: &[u32], slip: 
     slip[0] = 0;
     judge::put_marks(header, arcs, marks, rows, &mut slip[1..]);
     1 + header.nodes + header.arcs
+}
+
+// Writes the reasons for the goals over the front of `list` and gives their count.
+pub fn list_reasons(header: Header, arcs: &[u32], marks: &[u8], goals: &[usize], work: &mut [u32], list: &mut [usize]) -> usize
+    requires { ⌜ Whole header (now arcs) (now marks) × GoalsFit (netOf (header .nodes) (now arcs) (now marks)) (now goals) ⌝ }
+    requires { ⌜ (16384 ≤ length (now work)) × (576 ≤ length (now list)) × (fitsSheet (sheetOf header (now arcs) (now marks)) (now goals) ≡ false) ⌝ }
+    ensures { λ r. ⌜ r ≡ length (reasonsFor (sheetOf header (now (arcs .entry)) (now (marks .entry))) (now (goals .entry))) ⌝ }
+    ensures { λ _. ⌜ now (list .exit) ≡ front (reasonsFor (sheetOf header (now (arcs .entry)) (now (marks .entry))) (now (goals .entry))) (now (list .entry)) ⌝ }
+    ensures { λ _. ⌜ drop 16384 (now (work .exit)) ≡ drop 16384 (now (work .entry)) ⌝ }
+{
+    let query = Query {
+        nodes: header.nodes,
+        from: header.source,
+        to: header.target,
+        cap: header.limit,
+    };
+    greedy::list_reasons(query, arcs, marks, goals, work, list)
+}
+
+// Writes the slip of a taken sheet over the front of `slip` and gives its length.
+fn write_answer(header: Header, arcs: &[u32], marks: &[u8], work: &mut [u32], slip: &mut [u8]) -> usize
+    requires { ⌜ Whole header (now arcs) (now marks) × (16384 ≤ length (now work)) × (1200 ≤ length (now slip)) ⌝ }
+    ensures { λ r. ⌜ r ≡ length (passSlip (sheetOf header (now (arcs .entry)) (now (marks .entry))) (verdictOf (sheetOf header (now (arcs .entry)) (now (marks .entry))))) ⌝ }
+    ensures { λ _. ⌜ now (slip .exit) ≡ front (passSlip (sheetOf header (now (arcs .entry)) (now (marks .entry))) (verdictOf (sheetOf header (now (arcs .entry)) (now (marks .entry))))) (now (slip .entry)) ⌝ }
+    ensures { λ _. ⌜ drop 16384 (now (work .exit)) ≡ drop 16384 (now (work .entry)) ⌝ }
+{
+    let mut rows = [0u32; TWO_ROWS];
+    judge::fill_rows(header, arcs, marks, &mut rows);
+    let mut goals = [0usize; ROW_LENGTH];
+    let verdict = judge::judge(header, arcs, marks, &rows, &mut goals, work);
+    if verdict.number == 0 {
+        return write_stands(header, arcs, marks, &rows, slip);
+    }
+    let count = verdict.count;
+    let mut list = [0usize; ITEMS];
+    let n = list_reasons(header, arcs, marks, &goals[..count], work, &mut list);
+    slip::write_slip(slip, verdict.number, &goals[..count], &list[..n])
+}
+
+// The pass: for every sheet, work and slip what document 01 says, refused ones too.
+pub fn pass(sheet: &[u8], work: &mut [u32], slip: &mut [u8]) -> Answer
+    ensures { λ r. ⌜ record { number = r .number; length = r .length; work = now (work .exit); slip = now (slip .exit) } ≡ passed (now (sheet .entry)) (now (work .entry)) (now (slip .entry)) ⌝ }
+{
+    if work.len() < WORK_NUMBERS {
+        return Answer { number: 1, length: 0 };
+    }
+    if slip.len() < SLIP_BYTES {
+        return Answer { number: 2, length: 0 };
+    }
+    let mut arcs = [0u32; ARC_NUMBERS];
+    let mut marks = [0u8; ITEMS];
+    let header = match reader::read(sheet, &mut arcs, &mut marks) {
+        SheetRead::Taken(header) => header,
+        SheetRead::Refused(why) => return Answer { number: why, length: 0 },
+    };
+    let numbers = 3 * header.arcs;
+    let items = header.nodes + header.arcs;
+    let length = write_answer(header, &arcs[..numbers], &marks[..items], work, slip);
+    lent::zero(work);
+    Answer { number: 0, length }
 }

@@ -22,7 +22,7 @@ pub record Small (s : Slip) : Type 0 where
   pub many : length (s .reasons) ≤ 576
   pub reasons : Below 16384 (s .reasons)
 
-numbers-below : (s : Slip) → Small s → Below 16384 (slipNumbers s)
+pub numbers-below : (s : Slip) → Small s → Below 16384 (slipNumbers s)
 unfolding slipNumbers
 numbers-below s b = (
   omega (arith, b .high),

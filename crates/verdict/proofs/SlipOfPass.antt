@@ -36,7 +36,7 @@ pub reasons-rise : (S : Sheet) (goals : List ℕ) → ascends (reasonsFor S goal
 unfolding reasonsFor
 reasons-rise S goals = reasons-ascend (S .graph) (S .source) (S .target) (S .limit) goals (S .marks)
 
-reasons-count : (S : Sheet) (goals : List ℕ) → length (reasonsFor S goals) ≤ itemCount (S .graph)
+pub reasons-count : (S : Sheet) (goals : List ℕ) → length (reasonsFor S goals) ≤ itemCount (S .graph)
 reasons-count S goals = pigeonhole (itemCount (S .graph)) (reasonsFor S goals) (ascends-distinct (reasonsFor S goals) (reasons-rise S goals)) (reasons-below S goals)
 
 -- a slip with at most eight goals, all items, is small

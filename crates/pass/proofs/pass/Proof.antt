@@ -1,0 +1,116 @@
+-- `pass::pass` meets its contract, case by case. Assumes nothing.
+use mathlib.Core.Path.{sym, _∙_}
+use native.Mathlib.Omega.{arith}
+use Rattle.judge.proofs.LoadedLaws.{loaded, unloaded}
+use Rattle.pass.proofs.PassLaws.{short-work, short-slip, bad-sheet, good-sheet}
+use borrow.Author.Needs.{needs}
+use Rattle.pass.proofs.pass.Statement.{statement}
+use Rattle.pass.proofs.pass.Tie as tie
+use Rattle.pass.proofs.pass.Reads as reads
+use Rattle.pass.proofs.pass.Lts as lts
+use Rattle.lent.proofs.zero.Reads as zero-reads
+use Rattle.pass.proofs.write_answer.Reads as write-answer-reads
+use Rattle.reader.proofs.read.Reads as read-reads
+
+-- src/lib.rt:92:9
+returns : tie.Need-returns
+returns c = let s = c .before .before .before .before in short-work (s .args .sheet .now) (s .args .work .now) (s .args .slip .now) (c .if1 .taken)
+
+-- src/lib.rt:95:9
+returns-2 : tie.Need-returns-2
+returns-2 c = let s = c .before .before .before .before .before in short-slip (s .args .sheet .now) (s .args .work .now) (s .args .slip .now) (c .before .if1 .left) (c .if2 .taken)
+
+-- src/lib.rt:99:44
+slice-aggregate-read : tie.Need-slice-aggregate-read
+slice-aggregate-read c = search needs
+
+-- src/lib.rt:99:55
+slice-aggregate-read-2 : tie.Need-slice-aggregate-read-2
+slice-aggregate-read-2 c = search needs
+
+-- src/lib.rt:99:24
+read-requires : tie.Need-read-requires
+read-requires c κs = search needs
+
+-- src/lib.rt:100:26
+enum-known-header : tie.Need-enum-known-header
+enum-known-header c = search needs
+
+-- src/lib.rt:101:28
+enum-known-why : tie.Need-enum-known-why
+enum-known-why c = search needs
+
+-- src/lib.rt:101:36
+returns-3 : tie.Need-returns-3
+returns-3 c =
+    let s = c .before .before .before .before .before .before .before .before .before .before .before .before .before in
+    let r = c .before .before .before .before .before .read in
+    bad-sheet (s .args .sheet .now) (s .args .work .now) (s .args .slip .now) (c .before .before .before .before .before .before .before .before .before .if1 .left) (c .before .before .before .before .before .before .before .before .if2 .left) _ (unloaded (s .args .sheet .now) _ (sym (c .before .why .given .1) ∙ r .ensures .0))
+
+-- src/lib.rt:103:19
+mul-numbers : tie.Need-mul-numbers
+mul-numbers c = let L = load (c .before .before .before .before .before .before .before .before .before .before .before .before .before .before .before) in omega (arith, L .whole .few)
+
+-- src/lib.rt:104:17
+add-items : tie.Need-add-items
+add-items c = ?
+
+-- src/lib.rt:105:39
+array-share-prefix-arcs : tie.Need-array-share-prefix-arcs
+array-share-prefix-arcs c = ?
+
+-- src/lib.rt:105:39
+slice-aggregate-write-answer : tie.Need-slice-aggregate-write-answer
+slice-aggregate-write-answer c = ?
+
+-- src/lib.rt:105:57
+array-share-prefix-marks : tie.Need-array-share-prefix-marks
+array-share-prefix-marks c = ?
+
+-- src/lib.rt:105:57
+slice-aggregate-write-answer-2 : tie.Need-slice-aggregate-write-answer-2
+slice-aggregate-write-answer-2 c = ?
+
+-- src/lib.rt:105:9
+write-answer-requires : tie.Need-write-answer-requires
+write-answer-requires c κs = ?
+
+-- src/lib.rt:106:5
+zero-requires : tie.Need-zero-requires
+zero-requires c κs = search needs
+
+-- src/lib.rt:88:1
+same-length : tie.Need-same-length
+same-length c = search needs
+
+-- src/lib.rt:88:1
+same-length-2 : tie.Need-same-length-2
+same-length-2 c = search needs
+
+-- src/lib.rt:88:1
+returns-4 : tie.Need-returns-4
+returns-4 c = ?
+
+pub pass-spec : {M : Type 1} → statement M
+pass-spec =
+    tie.close
+    (tie.spec
+    returns
+    returns-2
+    slice-aggregate-read
+    slice-aggregate-read-2
+    read-requires
+    enum-known-header
+    enum-known-why
+    returns-3
+    mul-numbers
+    add-items
+    array-share-prefix-arcs
+    slice-aggregate-write-answer
+    array-share-prefix-marks
+    slice-aggregate-write-answer-2
+    write-answer-requires
+    zero-requires
+    same-length
+    same-length-2
+    returns-4)
