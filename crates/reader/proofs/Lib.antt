@@ -1,4 +1,3 @@
 pub mod RequiredLaws
 pub mod TakenLaws
 pub mod ViewLaws
-pub mod CallerLaws

@@ -1,7 +1,7 @@
 -- Laws of the whole sheet: what its parts say of it, and what a read leaves where it was taken. Assumes nothing.
 use Prim.Native.Nat.{ℕ, _+_, _-_, _*_, _≤_, _<_}
 use mathlib.Core.Path.{_≡_, refl, ap, sym, _∙_}
-use mathlib.Core.List.{List, []}
+use mathlib.Core.List.{List, [], _∷_}
 use native.Mathlib.Omega.{arith}
 use lib.ListN.{length, drop, take, length-drop, drop-of-length-le}
 use lib.Seq.{drop-cons, take-at, take-all}
@@ -60,7 +60,7 @@ module _ (h : Header) (bs : List ℕ) where
       pub mark-count : length ms ≡ h .nodes + h .arcs
       mark-count = several-read readMark (h .nodes + h .arcs) rest ms end qm .0
 
-      pub all-read : after (behind h bs) complete ≡ complete (whole ms) end
+      all-read : after (behind h bs) complete ≡ complete (whole ms) end
       unfolding after readArcs readMarks
       all-read = rw (← qa, arc-count, ← qm)
 
@@ -122,3 +122,46 @@ module _ (s old₁ old₂ : List ℕ) where
 -- the part of a list from a position to its end
 pub part-all : (s : List ℕ) (at : ℕ) → take (length s - at) (drop at s) ≡ drop at s
 part-all s at = take-all (length s - at) (drop at s) (rw length-drop (omega arith))
+
+complete-same : (T : Sheet) (end : List ℕ) {S : Sheet} {rest : List ℕ} → complete T end ≡ got S rest → T ≡ S
+unfolding complete
+complete-same T [] e = go (leb (length (required T)) 8) e
+  where
+    go : {S : Sheet} {rest : List ℕ} (b : Bool) → pick b (got T []) (refuse 13) ≡ got S rest → T ≡ S
+    go true q = cc
+    go false q = absurd (let z : _≡_ {A = ℕ} 0 1 = cc in omega arith)
+complete-same T (b ∷ bs) e = absurd (let z : _≡_ {A = ℕ} 0 1 = cc in omega arith)
+
+refused-taken : {r : Read Sheet} {e : ℕ} {S : Sheet} {rest : List ℕ} → Refused e ≡ answered r → r ≡ got S rest → ⊥
+unfolding answered
+refused-taken p q = let z : _≡_ {A = ℕ} 0 1 = cc (ap answered q) in omega arith
+
+-- a taken sheet's arcs and marks are those that a read leaves
+module _ {S : Sheet} {left : List ℕ} where
+  marks-taken :
+      (h : Header) (bs : List ℕ) {xs : List Arc} {rest : List ℕ} (qa : got xs rest ≡ several (readArc (h .nodes)) (h .arcs) bs)
+      (r : Read (List ℕ)) → r ≡ several readMark (h .nodes + h .arcs) rest → after (behind h bs) complete ≡ got S left
+      → (arcsBehind h bs ≡ S .graph .arcs) × (marksBehind h bs ≡ S .marks)
+  unfolding arcsBehind
+  marks-taken h bs {xs} {rest} qa (got ms end) p e =
+      let w : whole h bs qa ms ≡ S = complete-same (whole h bs qa ms) end (sym (all-read h bs qa p) ∙ e) in (
+        several-read (readArc (h .nodes)) (h .arcs) bs xs rest qa .1 ∙ ap (λ (T : Sheet). T .graph .arcs) w,
+        marks-left h bs qa ∙ several-read readMark (h .nodes + h .arcs) rest ms end p .1 ∙ ap (λ (T : Sheet). T .marks) w,
+      )
+  marks-taken h bs qa (refuse n) p e = absurd (refused-taken (marks-refused h bs qa p) e)
+
+  arcs-taken :
+      (h : Header) (bs : List ℕ) (r : Read (List Arc)) → r ≡ several (readArc (h .nodes)) (h .arcs) bs
+      → after (behind h bs) complete ≡ got S left → (arcsBehind h bs ≡ S .graph .arcs) × (marksBehind h bs ≡ S .marks)
+  arcs-taken h bs (got xs rest) p e = marks-taken h bs p (several readMark (h .nodes + h .arcs) rest) refl e
+  arcs-taken h bs (refuse n) p e = absurd (refused-taken (arcs-refused h bs p .0) e)
+
+  header-taken :
+      (s : List ℕ) (r : Read Header) → r ≡ readHeader s → taken s ≡ got S left → (arcsBegun s ≡ S .graph .arcs) × (marksBegun s ≡ S .marks)
+  unfolding after taken arcsBegun marksBegun ahead
+  header-taken s (got h bs) p e =
+      rw (← p) (arcs-taken h bs (several (readArc (h .nodes)) (h .arcs) bs) refl (rw (sheet-header s, ← p) at e))
+  header-taken s (refuse n) p e = absurd (refused-taken (header-refused s [] [] p .0) e)
+
+  pub taken-begun : (s : List ℕ) → taken s ≡ got S left → (arcsBegun s ≡ S .graph .arcs) × (marksBegun s ≡ S .marks)
+  taken-begun s e = header-taken s (readHeader s) refl e

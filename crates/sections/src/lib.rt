@@ -32,7 +32,7 @@ pub enum Judged {
 }
 
 // Reads the number at `at`, which is to be below `end`; otherwise the refusal is `why`.
-pub fn judged_at(sheet: &[u8], at: usize, end: u32, why: u32) -> Judged
+fn judged_at(sheet: &[u8], at: usize, end: u32, why: u32) -> Judged
     ensures { λ r. ⌜ judgedOf (now (sheet .entry)) r ≡ number why (λ x. ltb x end) (drop at (now (sheet .entry))) ⌝ }
     ensures { λ r. ⌜ nextOf r ≤ length (now (sheet .entry)) ⌝ }
 {

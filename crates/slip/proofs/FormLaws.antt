@@ -7,8 +7,9 @@ use native.Mathlib.Omega.{arith}
 use lib.Dec.{ltb}
 use lib.ListN.{length, drop, drop-of-length-le, length-append}
 use lib.Seq.{drop-cons}
-use borrow.Author.Tests.{ltb-true, le-leb, lt-leb}
+use borrow.Author.Tests.{ltb-true, lt-ltb, le-leb, lt-leb}
 use Rattle.lists.specs.Lists.{every}
+use Rattle.lists.proofs.Pigeonhole.{Below}
 use Rattle.lists.proofs.TestLaws.{and-true, true-and}
 use Rattle.varint.specs.Varint.{Read, got, refuse, after, readNumber, number, judged, several, writeNumber, writeNumbers}
 use Rattle.varint.specs.Answer.{small}
@@ -103,3 +104,25 @@ module _ (bs : List ℕ) where
     pub first-read : 1 ≤ v → v ≤ 4 → listsOf v rest ≡ readSlip bs
     unfolding readSlip listsOf number judged after
     first-read m l = rw (← q) (simp (le-leb 1 v m, le-leb v 4 l))
+
+-- numbers below a bound that is small enough are small
+pub small-below : (n : ℕ) (xs : List ℕ) → n ≤ 268435456 → Below n xs → small xs ≡ true
+unfolding small every
+small-below n [] l b = refl
+small-below n (x ∷ xs) l b = true-and (lt-ltb x 268435456 (omega (arith, b .0))) (small-below n xs l (b .1))
+
+small-both : (xs ys : List ℕ) → small xs ≡ true → small ys ≡ true → small (xs ++ ys) ≡ true
+unfolding small every
+small-both [] ys e f = f
+small-both (x ∷ xs) ys e f = let w = and-true (ltb x 268435456) _ e in true-and (w .0) (small-both xs ys (w .1) f)
+
+small-with : (x : ℕ) (xs : List ℕ) → x < 268435456 → small xs ≡ true → small (x ∷ xs) ≡ true
+unfolding small every
+small-with x xs h e = true-and (lt-ltb x 268435456 h) e
+
+-- and so a slip has a written form
+pub small-slip :
+    (v : ℕ) (gs rs : List ℕ) → v < 268435456 → length gs < 268435456 → small gs ≡ true → length rs < 268435456 → small rs ≡ true
+    → small (slipNumbers (slipFrom v gs rs)) ≡ true
+unfolding slipNumbers
+small-slip v gs rs a b c d e = small-with v _ a (small-both (length gs ∷ gs) (length rs ∷ rs) (small-with (length gs) gs b c) (small-with (length rs) rs d e))

@@ -20,25 +20,34 @@ pub fn write_marks(slip: &mut [u8], marks: &[u8]) -> usize
     at + varint::put_bytes(&mut slip[at..], marks)
 }
 
-// Writes the count of the items and the items.
-fn put_list(out: &mut [u8], items: &[usize]) -> usize
-    requires { ⌜ (small (length (now items) ∷ now items) ≡ true) × (length (listBytes (now items)) ≤ length (now out)) ⌝ }
-    ensures { λ r. ⌜ (r ≡ length (listBytes (now (items .entry)))) × (now (out .exit) ≡ front (listBytes (now (items .entry))) (now (out .entry))) ⌝ }
+// Writes the count of the goals and the goals.
+fn put_goals(out: &mut [u8], goals: &[usize]) -> usize
+    requires { ⌜ (small (length (now goals) ∷ now goals) ≡ true) × (length (listBytes (now goals)) ≤ length (now out)) ⌝ }
+    ensures { λ r. ⌜ (r ≡ length (listBytes (now (goals .entry)))) × (now (out .exit) ≡ front (listBytes (now (goals .entry))) (now (out .entry))) ⌝ }
 {
-    let at = varint::put_number(out, items.len() as u32);
-    at + varint::put_numbers(&mut out[at..], items)
+    let at = varint::put_number(out, goals.len() as u32);
+    at + varint::put_indices(&mut out[at..], goals)
+}
+
+// Writes the count of the reasons and the reasons.
+fn put_reasons(out: &mut [u8], reasons: &[u32]) -> usize
+    requires { ⌜ (small (length (now reasons) ∷ now reasons) ≡ true) × (length (listBytes (now reasons)) ≤ length (now out)) ⌝ }
+    ensures { λ r. ⌜ (r ≡ length (listBytes (now (reasons .entry)))) × (now (out .exit) ≡ front (listBytes (now (reasons .entry))) (now (out .entry))) ⌝ }
+{
+    let at = varint::put_number(out, reasons.len() as u32);
+    at + varint::put_numbers(&mut out[at..], reasons)
 }
 
 // Writes the slip of a refused round or a struck item over the front of `slip` and gives its length.
-pub fn write_slip(slip: &mut [u8], first: u32, goals: &[usize], reasons: &[usize]) -> usize
+pub fn write_slip(slip: &mut [u8], first: u32, goals: &[usize], reasons: &[u32]) -> usize
     requires { ⌜ small (slipNumbers (slipFrom first (now goals) (now reasons))) ≡ true ⌝ }
     requires { ⌜ length (slipBytes (slipFrom first (now goals) (now reasons))) ≤ length (now slip) ⌝ }
     ensures { λ r. ⌜ r ≡ length (slipBytes (slipFrom first (now (goals .entry)) (now (reasons .entry)))) ⌝ }
     ensures { λ _. ⌜ now (slip .exit) ≡ front (slipBytes (slipFrom first (now (goals .entry)) (now (reasons .entry)))) (now (slip .entry)) ⌝ }
 {
     let at = varint::put_number(slip, first);
-    let end = at + put_list(&mut slip[at..], goals);
-    end + put_list(&mut slip[end..], reasons)
+    let end = at + put_goals(&mut slip[at..], goals);
+    end + put_reasons(&mut slip[end..], reasons)
 }
 
 // A list in a slip: its count, where its numbers stand and the position after them; or the fault in its writing.

@@ -123,14 +123,28 @@ pub fn numbers_at(bytes: &[u8], from: usize, count: usize, out: &mut [usize])
 }
 
 // Writes the numbers in a row over the front of `out` and gives the count of bytes.
-pub fn put_numbers(out: &mut [u8], numbers: &[usize]) -> usize
+pub fn put_numbers(out: &mut [u8], numbers: &[u32]) -> usize
     requires { ⌜ (small (now numbers) ≡ true) × (length (writeNumbers (now numbers)) ≤ length (now out)) ⌝ }
     ensures { λ r. ⌜ (r ≡ length (writeNumbers (now (numbers .entry)))) × (now (out .exit) ≡ front (writeNumbers (now (numbers .entry))) (now (out .entry))) ⌝ }
 {
     let mut at: usize = 0;
     let mut j: usize = 0;
     while j < numbers.len() {
-        at += put_number(&mut out[at..], numbers[j] as u32);
+        at += put_number(&mut out[at..], numbers[j]);
+        j += 1;
+    }
+    at
+}
+
+// The same for indices.
+pub fn put_indices(out: &mut [u8], indices: &[usize]) -> usize
+    requires { ⌜ (small (now indices) ≡ true) × (length (writeNumbers (now indices)) ≤ length (now out)) ⌝ }
+    ensures { λ r. ⌜ (r ≡ length (writeNumbers (now (indices .entry)))) × (now (out .exit) ≡ front (writeNumbers (now (indices .entry))) (now (out .entry))) ⌝ }
+{
+    let mut at: usize = 0;
+    let mut j: usize = 0;
+    while j < indices.len() {
+        at += put_number(&mut out[at..], indices[j] as u32);
         j += 1;
     }
     at

@@ -18,27 +18,27 @@ put-number-requires c κs =
     let room = rw (slip-parts v gs rs) at (c .before .before .before .before .pre .1) in
     (small-parts v gs rs (c .before .before .before .before .pre .0) .0, first-part (writeNumber v) (listBytes gs) (listBytes rs) room)
 
-sub-put-list : tie.Need-sub-put-list
-sub-put-list c =
+sub-put-goals : tie.Need-sub-put-goals
+sub-put-goals c =
     let v = c .before .before .before .before .before .before .before .args .first in
     let gs = c .before .before .before .before .before .before .before .args .goals .now in
     let rs = c .before .before .before .before .before .before .before .args .reasons .now in
     let room = rw (slip-parts v gs rs) at (c .before .before .before .before .before .before .before .pre .1) in
     put-within (put (writeNumber v) (c .before .before .before .before .before .before .before .args .slip .now) (c .before .before .put-number .ensures .0) (c .before .before .put-number .ensures .1)) (listBytes gs) (two-parts (writeNumber v) (listBytes gs) (listBytes rs) room)
 
-part-put-list-start : tie.Need-part-put-list-start
-part-put-list-start c =
+part-put-goals-start : tie.Need-part-put-goals-start
+part-put-goals-start c =
     let v = c .before .before .before .before .before .before .before .args .first in
     let gs = c .before .before .before .before .before .before .before .args .goals .now in
     let rs = c .before .before .before .before .before .before .before .args .reasons .now in
     let room = rw (slip-parts v gs rs) at (c .before .before .before .before .before .before .before .pre .1) in
     put-within (put (writeNumber v) (c .before .before .before .before .before .before .before .args .slip .now) (c .before .before .put-number .ensures .0) (c .before .before .put-number .ensures .1)) (listBytes gs) (two-parts (writeNumber v) (listBytes gs) (listBytes rs) room)
 
-part-put-list-end : tie.Need-part-put-list-end
-part-put-list-end c = search needs
+part-put-goals-end : tie.Need-part-put-goals-end
+part-put-goals-end c = search needs
 
-put-list-requires : tie.Need-put-list-requires
-put-list-requires c κs =
+put-goals-requires : tie.Need-put-goals-requires
+put-goals-requires c κs =
     let v = c .before .before .before .before .before .before .before .before .args .first in
     let gs = c .before .before .before .before .before .before .before .before .args .goals .now in
     let rs = c .before .before .before .before .before .before .before .before .args .reasons .now in
@@ -51,34 +51,34 @@ add-end c =
     let gs = c .before .before .before .before .before .before .before .before .before .before .before .args .goals .now in
     let rs = c .before .before .before .before .before .before .before .before .before .before .before .args .reasons .now in
     let room = rw (slip-parts v gs rs) at (c .before .before .before .before .before .before .before .before .before .before .before .pre .1) in
-    omega (arith, two-parts (writeNumber v) (listBytes gs) (listBytes rs) room, length-append (writeNumber v) (listBytes gs), c .before .before .before .before .before .before .put-number .ensures .0, c .before .before .put-list .ensures .0)
+    omega (arith, two-parts (writeNumber v) (listBytes gs) (listBytes rs) room, length-append (writeNumber v) (listBytes gs), c .before .before .before .before .before .before .put-number .ensures .0, c .before .before .put-goals .ensures .0)
 
-sub-put-list-2 : tie.Need-sub-put-list-2
-sub-put-list-2 c =
+sub-put-reasons : tie.Need-sub-put-reasons
+sub-put-reasons c =
     let v = c .before .before .before .before .before .before .before .before .before .before .before .args .first in
     let gs = c .before .before .before .before .before .before .before .before .before .before .before .args .goals .now in
     let rs = c .before .before .before .before .before .before .before .before .before .before .before .args .reasons .now in
     let room = rw (slip-parts v gs rs) at (c .before .before .before .before .before .before .before .before .before .before .before .pre .1) in
-    put-within (put-on (put (writeNumber v) (c .before .before .before .before .before .before .before .before .before .before .before .args .slip .now) (c .before .before .before .before .before .before .put-number .ensures .0) (c .before .before .before .before .before .before .put-number .ensures .1)) (listBytes gs) (two-parts (writeNumber v) (listBytes gs) (listBytes rs) room) (c .before .before .put-list .ensures .0) (c .before .before .put-list .ensures .1)) (listBytes rs) room
+    put-within (put-on (put (writeNumber v) (c .before .before .before .before .before .before .before .before .before .before .before .args .slip .now) (c .before .before .before .before .before .before .put-number .ensures .0) (c .before .before .before .before .before .before .put-number .ensures .1)) (listBytes gs) (two-parts (writeNumber v) (listBytes gs) (listBytes rs) room) (c .before .before .put-goals .ensures .0) (c .before .before .put-goals .ensures .1)) (listBytes rs) room
 
-part-put-list-start-2 : tie.Need-part-put-list-start-2
-part-put-list-start-2 c =
+part-put-reasons-start : tie.Need-part-put-reasons-start
+part-put-reasons-start c =
     let v = c .before .before .before .before .before .before .before .before .before .before .before .args .first in
     let gs = c .before .before .before .before .before .before .before .before .before .before .before .args .goals .now in
     let rs = c .before .before .before .before .before .before .before .before .before .before .before .args .reasons .now in
     let room = rw (slip-parts v gs rs) at (c .before .before .before .before .before .before .before .before .before .before .before .pre .1) in
-    put-within (put-on (put (writeNumber v) (c .before .before .before .before .before .before .before .before .before .before .before .args .slip .now) (c .before .before .before .before .before .before .put-number .ensures .0) (c .before .before .before .before .before .before .put-number .ensures .1)) (listBytes gs) (two-parts (writeNumber v) (listBytes gs) (listBytes rs) room) (c .before .before .put-list .ensures .0) (c .before .before .put-list .ensures .1)) (listBytes rs) room
+    put-within (put-on (put (writeNumber v) (c .before .before .before .before .before .before .before .before .before .before .before .args .slip .now) (c .before .before .before .before .before .before .put-number .ensures .0) (c .before .before .before .before .before .before .put-number .ensures .1)) (listBytes gs) (two-parts (writeNumber v) (listBytes gs) (listBytes rs) room) (c .before .before .put-goals .ensures .0) (c .before .before .put-goals .ensures .1)) (listBytes rs) room
 
-part-put-list-end-2 : tie.Need-part-put-list-end-2
-part-put-list-end-2 c = search needs
+part-put-reasons-end : tie.Need-part-put-reasons-end
+part-put-reasons-end c = search needs
 
-put-list-requires-2 : tie.Need-put-list-requires-2
-put-list-requires-2 c κs =
+put-reasons-requires : tie.Need-put-reasons-requires
+put-reasons-requires c κs =
     let v = c .before .before .before .before .before .before .before .before .before .before .before .before .args .first in
     let gs = c .before .before .before .before .before .before .before .before .before .before .before .before .args .goals .now in
     let rs = c .before .before .before .before .before .before .before .before .before .before .before .before .args .reasons .now in
     let room = rw (slip-parts v gs rs) at (c .before .before .before .before .before .before .before .before .before .before .before .before .pre .1) in
-    (small-parts v gs rs (c .before .before .before .before .before .before .before .before .before .before .before .before .pre .0) .2, put-room (put-on (put (writeNumber v) (c .before .before .before .before .before .before .before .before .before .before .before .before .args .slip .now) (c .before .before .before .before .before .before .before .put-number .ensures .0) (c .before .before .before .before .before .before .before .put-number .ensures .1)) (listBytes gs) (two-parts (writeNumber v) (listBytes gs) (listBytes rs) room) (c .before .before .before .put-list .ensures .0) (c .before .before .before .put-list .ensures .1)) (listBytes rs) room)
+    (small-parts v gs rs (c .before .before .before .before .before .before .before .before .before .before .before .before .pre .0) .2, put-room (put-on (put (writeNumber v) (c .before .before .before .before .before .before .before .before .before .before .before .before .args .slip .now) (c .before .before .before .before .before .before .before .put-number .ensures .0) (c .before .before .before .before .before .before .before .put-number .ensures .1)) (listBytes gs) (two-parts (writeNumber v) (listBytes gs) (listBytes rs) room) (c .before .before .before .put-goals .ensures .0) (c .before .before .before .put-goals .ensures .1)) (listBytes rs) room)
 
 add-result : tie.Need-add-result
 add-result c =
@@ -86,7 +86,7 @@ add-result c =
     let gs = c .before .before .before .before .before .before .before .before .before .before .before .before .before .before .before .args .goals .now in
     let rs = c .before .before .before .before .before .before .before .before .before .before .before .before .before .before .before .args .reasons .now in
     let room = rw (slip-parts v gs rs) at (c .before .before .before .before .before .before .before .before .before .before .before .before .before .before .before .pre .1) in
-    omega (arith, room, length-append (writeNumber v ++ listBytes gs) (listBytes rs), length-append (writeNumber v) (listBytes gs), c .before .before .before .before .before .before .before .before .before .before .put-number .ensures .0, c .before .before .before .before .before .before .put-list .ensures .0, c .before .before .put-list2 .ensures .0)
+    omega (arith, room, length-append (writeNumber v ++ listBytes gs) (listBytes rs), length-append (writeNumber v) (listBytes gs), c .before .before .before .before .before .before .before .before .before .before .put-number .ensures .0, c .before .before .before .before .before .before .put-goals .ensures .0, c .before .before .put-reasons .ensures .0)
 
 same-length : tie.Need-same-length
 same-length c = search needs
@@ -97,7 +97,7 @@ returns c =
     let gs = c .before .before .before .before .before .before .before .before .before .before .before .before .before .before .before .args .goals .now in
     let rs = c .before .before .before .before .before .before .before .before .before .before .before .before .before .before .before .args .reasons .now in
     let room = rw (slip-parts v gs rs) at (c .before .before .before .before .before .before .before .before .before .before .before .before .before .before .before .pre .1) in
-    let w = put-on (put-on (put (writeNumber v) (c .before .before .before .before .before .before .before .before .before .before .before .before .before .before .before .args .slip .now) (c .before .before .before .before .before .before .before .before .before .before .put-number .ensures .0) (c .before .before .before .before .before .before .before .before .before .before .put-number .ensures .1)) (listBytes gs) (two-parts (writeNumber v) (listBytes gs) (listBytes rs) room) (c .before .before .before .before .before .before .put-list .ensures .0) (c .before .before .before .before .before .before .put-list .ensures .1)) (listBytes rs) room (c .before .before .put-list2 .ensures .0) (c .before .before .put-list2 .ensures .1) in
+    let w = put-on (put-on (put (writeNumber v) (c .before .before .before .before .before .before .before .before .before .before .before .before .before .before .before .args .slip .now) (c .before .before .before .before .before .before .before .before .before .before .put-number .ensures .0) (c .before .before .before .before .before .before .before .before .before .before .put-number .ensures .1)) (listBytes gs) (two-parts (writeNumber v) (listBytes gs) (listBytes rs) room) (c .before .before .before .before .before .before .put-goals .ensures .0) (c .before .before .before .before .before .before .put-goals .ensures .1)) (listBytes rs) room (c .before .before .put-reasons .ensures .0) (c .before .before .put-reasons .ensures .1) in
     rw (slip-parts v gs rs) (w .at-end, w .holds)
 
 pub write-slip-spec : {M : Type 1} → statement M
@@ -105,15 +105,15 @@ write-slip-spec =
     tie.close
     (tie.spec
     put-number-requires
-    sub-put-list
-    part-put-list-start
-    part-put-list-end
-    put-list-requires
+    sub-put-goals
+    part-put-goals-start
+    part-put-goals-end
+    put-goals-requires
     add-end
-    sub-put-list-2
-    part-put-list-start-2
-    part-put-list-end-2
-    put-list-requires-2
+    sub-put-reasons
+    part-put-reasons-start
+    part-put-reasons-end
+    put-reasons-requires
     add-result
     same-length
     returns)

@@ -31,9 +31,6 @@ mul-put-number c = omega arith
 shared-slice-read-put-number : tie.Need-shared-slice-read-put-number Inv-loop μ-loop
 shared-slice-read-put-number c = search needs
 
-cast-put-number : tie.Need-cast-put-number Inv-loop μ-loop
-cast-put-number c = omega (arith, small-at (c .before .before .before .before .before .before .args .numbers .now) (c .before .before .before .loop .j) (c .before .before .before .before .before .before .pre .0) (c .before .before .loop-test .taken))
-
 put-number-requires : tie.Need-put-number-requires Inv-loop μ-loop
 put-number-requires c κs = (
   small-at (c .before .before .before .before .before .before .args .numbers .now) (c .before .before .before .loop .j) (c .before .before .before .before .before .before .pre .0) (c .before .before .loop-test .taken),
@@ -70,7 +67,6 @@ put-numbers-spec =
     part-put-number-end
     mul-put-number
     shared-slice-read-put-number
-    cast-put-number
     put-number-requires
     add-at
     add-j

@@ -1,4 +1,4 @@
--- `put_list` writes the count and the items behind it. Assumes nothing.
+-- `put_goals` writes the count and the goals behind it. Assumes nothing.
 use borrow.Author.Needs.{needs}
 use native.Mathlib.Omega.{arith}
 use mathlib.Core.Path.{_∙_, ap}
@@ -6,64 +6,64 @@ use lib.ListN.{length, length-append}
 use Rattle.lists.proofs.FrontLaws.{put, put-within, put-room, put-on}
 use Rattle.varint.specs.Varint.{writeNumber, writeNumbers}
 use Rattle.slip.proofs.FormLaws.{list-parts, small-cons}
-use Rattle.slip.proofs.put_list.Statement.{statement}
-use Rattle.slip.proofs.put_list.Tie as tie
+use Rattle.slip.proofs.put_goals.Statement.{statement}
+use Rattle.slip.proofs.put_goals.Tie as tie
 
 cast-put-number : tie.Need-cast-put-number
 cast-put-number c = omega (arith, small-cons _ _ (c .before .before .before .pre .0) .0)
 
 put-number-requires : tie.Need-put-number-requires
 put-number-requires c κs =
-    let xs = c .before .before .before .args .items .now in
+    let xs = c .before .before .before .args .goals .now in
     (small-cons _ _ (c .before .before .before .pre .0) .0, omega (arith, ap length (list-parts xs) ∙ length-append (writeNumber (length xs)) (writeNumbers xs)))
 
-sub-put-numbers : tie.Need-sub-put-numbers
-sub-put-numbers c =
-    let xs = c .before .before .before .before .before .before .args .items .now in
+sub-put-indices : tie.Need-sub-put-indices
+sub-put-indices c =
+    let xs = c .before .before .before .before .before .before .args .goals .now in
     put-within (put (writeNumber (length xs)) (c .before .before .before .before .before .before .args .out .now) (c .before .before .put-number .ensures .0) (c .before .before .put-number .ensures .1)) (writeNumbers xs) (rw (list-parts xs) at (c .before .before .before .before .before .before .pre .1))
 
-part-put-numbers-start : tie.Need-part-put-numbers-start
-part-put-numbers-start c =
-    let xs = c .before .before .before .before .before .before .args .items .now in
+part-put-indices-start : tie.Need-part-put-indices-start
+part-put-indices-start c =
+    let xs = c .before .before .before .before .before .before .args .goals .now in
     put-within (put (writeNumber (length xs)) (c .before .before .before .before .before .before .args .out .now) (c .before .before .put-number .ensures .0) (c .before .before .put-number .ensures .1)) (writeNumbers xs) (rw (list-parts xs) at (c .before .before .before .before .before .before .pre .1))
 
-part-put-numbers-end : tie.Need-part-put-numbers-end
-part-put-numbers-end c = search needs
+part-put-indices-end : tie.Need-part-put-indices-end
+part-put-indices-end c = search needs
 
-put-numbers-requires : tie.Need-put-numbers-requires
-put-numbers-requires c κs =
-    let xs = c .before .before .before .before .before .before .before .args .items .now in (
+put-indices-requires : tie.Need-put-indices-requires
+put-indices-requires c κs =
+    let xs = c .before .before .before .before .before .before .before .args .goals .now in (
       small-cons _ _ (c .before .before .before .before .before .before .before .pre .0) .1,
       put-room (put (writeNumber (length xs)) (c .before .before .before .before .before .before .before .args .out .now) (c .before .before .before .put-number .ensures .0) (c .before .before .before .put-number .ensures .1)) (writeNumbers xs) (rw (list-parts xs) at (c .before .before .before .before .before .before .before .pre .1)),
     )
 
 add-result : tie.Need-add-result
 add-result c =
-    let xs = c .before .before .before .before .before .before .before .before .before .before .args .items .now in
-    omega (arith, ap length (list-parts xs) ∙ length-append (writeNumber (length xs)) (writeNumbers xs), c .before .before .before .before .before .before .put-number .ensures .0, c .before .before .put-numbers .ensures .0)
+    let xs = c .before .before .before .before .before .before .before .before .before .before .args .goals .now in
+    omega (arith, ap length (list-parts xs) ∙ length-append (writeNumber (length xs)) (writeNumbers xs), c .before .before .before .before .before .before .put-number .ensures .0, c .before .before .put-indices .ensures .0)
 
 same-length : tie.Need-same-length
 same-length c = search needs
 
 returns : tie.Need-returns
 returns c =
-    let xs = c .before .before .before .before .before .before .before .before .before .before .args .items .now in
+    let xs = c .before .before .before .before .before .before .before .before .before .before .args .goals .now in
     let w =
     put-on (put (writeNumber (length xs)) (c .before .before .before .before .before .before .before .before .before .before .args .out .now) (c .before .before .before .before .before .before .put-number .ensures .0) (c .before .before .before .before .before .before .put-number .ensures .1)) (writeNumbers xs) (rw (list-parts xs) at (c .before .before .before .before .before .before .before .before .before .before .pre .1))
-    (c .before .before .put-numbers .ensures .0) (c .before .before .put-numbers .ensures .1)
+    (c .before .before .put-indices .ensures .0) (c .before .before .put-indices .ensures .1)
     in
     rw (list-parts xs) (w .at-end, w .holds)
 
-pub put-list-spec : {M : Type 1} → statement M
-put-list-spec =
+pub put-goals-spec : {M : Type 1} → statement M
+put-goals-spec =
     tie.close
     (tie.spec
     cast-put-number
     put-number-requires
-    sub-put-numbers
-    part-put-numbers-start
-    part-put-numbers-end
-    put-numbers-requires
+    sub-put-indices
+    part-put-indices-start
+    part-put-indices-end
+    put-indices-requires
     add-result
     same-length
     returns)
