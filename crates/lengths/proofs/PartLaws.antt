@@ -16,7 +16,7 @@ use Rattle.rows.specs.Rows.{RowsAre, StartsOf, StartsFit}
 use Rattle.walks.specs.Graph.{Graph, least}
 use Rattle.walks.specs.Goals.{entryOf, exitOf, ownOf}
 use Rattle.lengths.proofs.SetLaws.{chosen-all}
-use Rattle.lengths.proofs.TableLaws.{same-front}
+use Rattle.lengths.proofs.TableLaws.{same-front, asked-of}
 use Rattle.lengths.specs.Sets.{chosen}
 use Rattle.lengths.specs.Table.{GoalsFit, StartsTo, StartsAre, Rowed, NotedTo, Noted, Filled, Asked, TableFits}
 
@@ -148,5 +148,5 @@ pub all-goals : {N : Net} {cap a : ℕ} {goals work : List ℕ} (k b v r : ℕ) 
 all-goals {N} {cap} {a} {goals} {work} k b v r l F q h reach =
     let p : 1 ≤ 2 ^ k = one-le-pow k 2 (omega arith) in
     let e : chosen goals (b - 1) ≡ goals = ap (λ (x : ℕ). chosen goals (x - 1)) (q ∙ ap (λ (n : ℕ). 2 ^ n) (sym l)) ∙ chosen-all goals in
-    reach N a goals (record { fit = F .fit; rowed = F .rowed; set = F .sets (b - 1) (omega arith); counted = l; few = omega arith; node = h })
+    reach N a goals (asked-of F k (b - 1) v l (omega arith) (omega arith) h)
     ∙ ap (λ (gs : List ℕ). held cap (least (graph N) (closed N) gs a v)) e

@@ -1,4 +1,4 @@
--- Sets of goals as numbers, and the law of the last goal for them.
+-- Sets of goals as numbers, and the law of the last goal for them: the least length over a set is the least over its goals as the last one. Assumes nothing.
 use Prim.Native.Nat.{ℕ, zero, suc, _+_, _-_, _/_, _%_, _^_, _≤_, _<_}
 use mathlib.Core.Path.{_≡_, refl, sym, ap, _∙_, subst}
 use mathlib.Core.Logic.{_⊎_, inl, inr}

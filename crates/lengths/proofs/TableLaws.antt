@@ -18,7 +18,7 @@ use Rattle.rows.specs.Net.{Net, graph, closed}
 use Rattle.walks.specs.Goals.{entryOf, exitOf, ownOf, lastly}
 use Rattle.walks.specs.Graph.{least}
 use Rattle.walks.specs.Lengths.{Least, none, some, plus, lesser}
-use Rattle.lengths.proofs.SetLaws.{but-less, chosen-count, last-in}
+use Rattle.lengths.proofs.SetLaws.{chosen-count, last-in}
 use Rattle.lengths.specs.Sets.{has, chosen, given, past, anyIn}
 use Rattle.lengths.specs.Table.{Filled, FilledTo, Asked, TableFits, TableOnly}
 
@@ -54,7 +54,7 @@ module _ {N : Net} {cap a : ℕ} {goals : List ℕ} {k S v : ℕ} {work : List �
   unfolding anyIn lastly past
   reach-more i r t h e f =
       let h′ : i < length goals = rw (K .counted) h in
-      rw add-one (f (past (graph N) (closed N) a goals S i) (least (graph N) (closed N) [] (exitOf (graph N) (getD goals i 0)) v) (anyIn (graph N) (closed N) a v goals S i)
+      rw add-one (f (past (graph N) (closed N) a goals (S - 2 ^ i) i) (least (graph N) (closed N) [] (exitOf (graph N) (getD goals i 0)) v) (anyIn (graph N) (closed N) a v goals S i)
       (K .set i h′) (K .rowed .rows i h′ v (K .node)) e)
 
   pub reach-done : (r : ℕ) → (ones S ≡ 0 → ⊥) → r ≡ held cap (anyIn (graph N) (closed N) a v goals S k)
@@ -67,37 +67,27 @@ pub any-begun : (N : Net) (cap a v S : ℕ) (goals : List ℕ) → missing ≡ h
 unfolding anyIn
 any-begun N cap a v S goals = is-held (high tt)
 
--- what reach is asked for the goals before the last one
-pub asked-before : {N : Net} {cap a : ℕ} {goals : List ℕ} {S : ℕ} {work : List ℕ} → Filled N cap a goals S work → (k i v : ℕ) → length goals ≡ k → has S i ≡ true
-    → S < 2 ^ k → v < N .nodes → Asked N cap a goals k (S - 2 ^ i) v work
-asked-before {S = S} F k i v q e s h = record {
-  fit = F .fit;
-  rowed = F .rowed;
-  set = F .sets (S - 2 ^ i) (but-less S i e);
-  counted = q;
-  few = omega (arith, but-less S i e);
-  node = h;
-}
+-- what reach is asked for a set that is filled
+pub asked-of : {N : Net} {cap a : ℕ} {goals : List ℕ} {n : ℕ} {work : List ℕ} → Filled N cap a goals n work → (k S v : ℕ) → length goals ≡ k → S < n → S < 2 ^ k
+    → v < N .nodes → Asked N cap a goals k S v work
+asked-of F k S v q h s w = record { fit = F .fit; rowed = F .rowed; set = F .sets S h; counted = q; few = s; node = w }
 
 pub shifted : (i : ℕ) → i ≤ 8 → 1 * 2 ^ i % 4294967296 ≡ 2 ^ i
 shifted i h = let p : 2 ^ i ≤ 2 ^ 8 = pow-le-pow-right (omega arith) h in omega arith
 
 -- the length past goal i: to its entry by reach, then the goal itself
-pub past-is : {N : Net} {cap a : ℕ} {goals : List ℕ} {S : ℕ} {work : List ℕ} → Filled N cap a goals S work
-    → (k i b before r : ℕ) → length goals ≡ k → i < k → has S i ≡ true → S < 2 ^ k → b ≡ 2 ^ i
-    → ((N : Net) (a : ℕ) (goals′ : List ℕ) → Asked N cap a goals′ k (S - b) (getD work (576 + i) 0) work
-    → before ≡ held cap (least (graph N) (closed N) (chosen goals′ (S - b)) a (getD work (576 + i) 0)))
+pub past-is : {N : Net} {cap a : ℕ} {goals : List ℕ} {n : ℕ} {work : List ℕ} → Filled N cap a goals n work
+    → (k S i before r : ℕ) → length goals ≡ k → S < n → S < 2 ^ k → i < k
+    → ((N : Net) (a : ℕ) (goals′ : List ℕ) → Asked N cap a goals′ k S (getD work (576 + i) 0) work
+    → before ≡ held cap (least (graph N) (closed N) (chosen goals′ S) a (getD work (576 + i) 0)))
     → ((p q : Least) → before ≡ held cap p → getD work (584 + i) 0 ≡ held cap q → r ≡ held cap (plus p q)) → r ≡ held cap (past (graph N) (closed N) a goals S i)
 unfolding past
-past-is {N} {cap} {a} {goals} {S} {work} F k i b before r q h e s qb reach sum =
-    sum (least (graph N) (closed N) (chosen goals (S - 2 ^ i)) a (entryOf (graph N) (getD goals i 0))) (ownOf (graph N) (closed N) (getD goals i 0))
-    (rw (qb, F .noted .entries i h′) at (reach N a goals K)) (F .noted .owns i h′)
+past-is {N} {cap} {a} {goals} {n} {work} F k S i before r q h s hi reach sum =
+    sum (least (graph N) (closed N) (chosen goals S) a (entryOf (graph N) (getD goals i 0))) (ownOf (graph N) (closed N) (getD goals i 0))
+    (rw (F .noted .entries i h′) at (reach N a goals (asked-of F k S (getD work (576 + i) 0) q h s (F .inside i h′)))) (F .noted .owns i h′)
   where
     h′ : i < length goals
     h′ = omega arith
-
-    K : Asked N cap a goals k (S - b) (getD work (576 + i) 0) work
-    K = rw qb (asked-before F k i (getD work (576 + i) 0) q e s (F .inside i h′))
 
 -- goal i is not in the set: nothing to store
 pub put-none : {N : Net} {cap a : ℕ} {goals : List ℕ} {S i : ℕ} {work : List ℕ} → has S i ≡ false → FilledTo N cap a goals S i work → FilledTo N cap a goals S (i + 1) work
@@ -105,7 +95,7 @@ put-none {i = i} e F = record { filled = F .filled; set = below-more _ i (F .set
 
 -- the entry of the set and goal i is stored, and all other entries are as they were
 pub put-one : {N : Net} {cap a : ℕ} {goals : List ℕ} {S i : ℕ} {work : List ℕ} (x : ℕ) → S < 256 → i < length goals → 3072 ≤ length work
-    → x ≡ held cap (past (graph N) (closed N) a goals S i) → FilledTo N cap a goals S i work → FilledTo N cap a goals S (i + 1) (set work (1024 + S * 8 + i) x)
+    → x ≡ held cap (past (graph N) (closed N) a goals (S - 2 ^ i) i) → FilledTo N cap a goals S i work → FilledTo N cap a goals S (i + 1) (set work (1024 + S * 8 + i) x)
 put-one {N} {cap} {a} {goals} {S} {i} {work} x s h l e F = record {
   filled = record {
     small = F .filled .small;

@@ -25,10 +25,10 @@ unfoldable pub given : Bool → Least → Least
 given true r = r
 given false r = none
 
--- the goals of the set met, goal i the last of them, and the walk just past it
+-- the goals of the set met, then goal i, and the walk just past it
 unfoldable pub past : Graph → (ℕ → Bool) → ℕ → List ℕ → ℕ → ℕ → Least
 past G closed a goals set i =
-    plus (least G closed (chosen goals (set - 2 ^ i)) a (entryOf G (getD goals i 0))) (ownOf G closed (getD goals i 0))
+    plus (least G closed (chosen goals set) a (entryOf G (getD goals i 0))) (ownOf G closed (getD goals i 0))
 
 -- the least length on to b over the goals below n of the set as the last goal
 unfoldable pub anyIn : Graph → (ℕ → Bool) → ℕ → ℕ → List ℕ → ℕ → ℕ → Least

@@ -3,7 +3,7 @@
 use mathlib.Core.Path.{_≡_}
 use mathlib.Core.Bool.{true}
 use mathlib.Core.List.{List, []}
-use Prim.Native.Nat.{ℕ, _+_, _*_, _^_, _≤_, _<_}
+use Prim.Native.Nat.{ℕ, _+_, _*_, _-_, _^_, _≤_, _<_}
 use lib.ListN.{length, getD, take, drop}
 use Rattle.lists.specs.Lists.{Distinct}
 use Rattle.rows.specs.Held.{held}
@@ -45,7 +45,7 @@ Noted N cap goals work = NotedTo N cap goals (length goals) work
 -- the table's entries for the goals below n of a set
 abbrev pub SetAt : Net → ℕ → ℕ → List ℕ → ℕ → ℕ → List ℕ → Type 0
 SetAt N cap a goals S n work =
-    (i : ℕ) → i < n → has S i ≡ true → getD work (1024 + S * 8 + i) 0 ≡ held cap (past (graph N) (closed N) a goals S i)
+    (i : ℕ) → i < n → has S i ≡ true → getD work (1024 + S * 8 + i) 0 ≡ held cap (past (graph N) (closed N) a goals (S - 2 ^ i) i)
 
 -- the work once the rows are done and the table's entries for the sets below n
 pub record Filled (N : Net) (cap a : ℕ) (goals : List ℕ) (n : ℕ) (work : List ℕ) : Type 0 where

@@ -12,6 +12,7 @@ ghost use Rattle.rows.specs.Net.{Net, netOf, graph, closed, arcCount, Proper, J
 ghost use Rattle.lengths.specs.Sets.{has as hasOf, chosen, given, past as pastOf};
 ghost use Rattle.lengths.specs.Table.{GoalsFit, StartsAre, Rowed, Noted, Filled, FilledTo, Asked, TableFits, TableOnly};
 
+// What stands for a length that is missing or above the cap.
 const MISSING: u32 = 0xFFFF_FFFF;
 
 // The mark of a forbidden item.
@@ -19,6 +20,13 @@ const FORBIDDEN: u8 = 2;
 
 // The most numbers that the arcs take, three each.
 const ARC_NUMBERS: usize = 1536;
+
+// What the three numbers of an arc are.
+const TAIL: usize = 0;
+
+const HEAD: usize = 1;
+
+const WEIGHT: usize = 2;
 
 // The most goals, and the most rows: from the source and from where each goal is left.
 const GOALS: usize = 8;
@@ -53,7 +61,7 @@ fn entry(nodes: usize, arcs: &[u32], g: usize) -> u32
     if g < nodes {
         return g as u32;
     }
-    arcs[(g - nodes) * 3]
+    arcs[(g - nodes) * 3 + TAIL]
 }
 
 // The node where a walk leaves goal `g`.
@@ -64,7 +72,7 @@ fn exit(nodes: usize, arcs: &[u32], g: usize) -> usize
     if g < nodes {
         return g;
     }
-    arcs[(g - nodes) * 3 + 1] as usize
+    arcs[(g - nodes) * 3 + HEAD] as usize
 }
 
 // The length of goal `g` itself.
@@ -78,7 +86,7 @@ fn own(nodes: usize, arcs: &[u32], marks: &[u8], g: usize, cap: u32) -> u32
     if marks[g] == FORBIDDEN {
         return MISSING;
     }
-    let weight = arcs[(g - nodes) * 3 + 2];
+    let weight = arcs[(g - nodes) * 3 + WEIGHT];
     if weight > cap {
         return MISSING;
     }
@@ -193,12 +201,11 @@ fn reach(work: &[u32], count: usize, set: u32, v: usize, cap: u32) -> u32
     r
 }
 
-// The length past goal `i` as the last goal of the set.
-fn past(work: &[u32], count: usize, set: u32, i: usize, cap: u32) -> u32
-    requires { ⌜ TableFits count (now work) × (set < 2 ^ count) × (i < count) × (hasOf set i ≡ true) × (cap < missing) ⌝ }
-    ensures { λ r. ⌜ ((N : Net) (a : ℕ) (goals : List ℕ) → length goals ≡ count → Filled N cap a goals set (now (work .entry)) → r ≡ held cap (pastOf (graph N) (closed N) a goals set i)) ⌝ }
+// The length past goal `i`, the goals of the set `rest` met before it.
+fn past(work: &[u32], count: usize, rest: u32, i: usize, cap: u32) -> u32
+    requires { ⌜ TableFits count (now work) × (rest < 2 ^ count) × (i < count) × (cap < missing) ⌝ }
+    ensures { λ r. ⌜ ((N : Net) (a n : ℕ) (goals : List ℕ) → length goals ≡ count → rest < n → Filled N cap a goals n (now (work .entry)) → r ≡ held cap (pastOf (graph N) (closed N) a goals rest i)) ⌝ }
 {
-    let rest = set - bit(i);
     let at = work[ENTRIES + i] as usize;
     let before = reach(work, count, rest, at, cap);
     sum(before, work[OWN_LENGTHS + i], cap)
@@ -211,7 +218,8 @@ fn put(work: &mut [u32], count: usize, set: u32, i: usize, cap: u32)
     ensures { λ _. ⌜ TableOnly (now (work .entry)) (now (work .exit)) ⌝ }
 {
     if has(set, i) {
-        let x = past(work, count, set, i, cap);
+        let rest = set - bit(i);
+        let x = past(work, count, rest, i, cap);
         work[TABLE + set as usize * GOALS + i] = x;
     }
 }

@@ -73,7 +73,7 @@ pub fn relax(row: &mut [u32], from: usize, to: usize, weight: u32, cap: u32) -> 
     false
 }
 
-// Tries arc `i` of the open arcs.
+// Tries arc `i` of the packed arcs.
 pub fn try_arc(arcs: &[u32], row: &mut [u32], i: usize, cap: u32) -> bool
     requires { ⌜ Joins 64 (now arcs) × (length (now row) ≡ 64) × (i < arcCount (now arcs)) ⌝ }
     ensures { λ r. ⌜ ArcTried cap (now (arcs .entry)) (now (row .entry)) i (now (row .exit)) r ⌝ }
@@ -119,7 +119,7 @@ fn sweep_down(arcs: &[u32], row: &mut [u32], cap: u32) -> bool
     changed
 }
 
-// Up and down: a chain of arcs in either order takes one turn.
+// Tries each arc once upwards and, where that changed anything, once downwards, so that a chain of arcs in either order takes one turn.
 fn sweep(arcs: &[u32], row: &mut [u32], cap: u32) -> bool
     requires { ⌜ Joins 64 (now arcs) × (length (now row) ≡ 64) ⌝ }
     ensures { λ _. ⌜ Keeps cap (now (arcs .entry)) (now (row .entry)) (now (row .exit)) ⌝ }
@@ -140,7 +140,7 @@ pub fn settle(arcs: &[u32], row: &mut [u32], cap: u32)
     while sweep(arcs, row, cap) {}
 }
 
-// Stores 0 for the start itself, if it is open.
+// Stores 0 for the start itself, if it is open: a forbidden start is touched by no walk.
 pub fn start(marks: &[u8], from: usize, row: &mut [u32])
     requires { ⌜ (from < length (now marks)) × (from < length (now row)) ⌝ }
     ensures { λ _. ⌜ Started (now (marks .entry)) from (now (row .entry)) (now (row .exit)) ⌝ }

@@ -29,7 +29,7 @@ fn fill(row: &mut [u32], v: u32)
     }
 }
 
-// The arcs chained by their tails.
+// Chains the arcs by their tails: number `u` leads to the last arc that leaves node `u`, number 64 + `i` from arc `i` to the one before it.
 fn chained(arcs: &[u32]) -> [u32; CHAIN_NUMBERS]
     requires { ⌜ Joins 64 (now arcs) × (length (now arcs) ≤ 1536) ⌝ }
     ensures { λ r. ⌜ Chained (arcCount (now (arcs .entry))) r ⌝ }
@@ -46,26 +46,33 @@ fn chained(arcs: &[u32]) -> [u32; CHAIN_NUMBERS]
     chains
 }
 
-// Tries arc `i`. Its head is added to the nodes whose arcs are to be tried where its entry is cut.
-fn try_adding(arcs: &[u32], row: &mut [u32], i: usize, nodes: u64, cap: u32) -> u64
+// Tries arc `i`. Where its head's entry is cut, the head is added to the active nodes: those whose arcs are to be tried, one bit each.
+fn try_adding(arcs: &[u32], row: &mut [u32], i: usize, active: u64, cap: u32) -> u64
     requires { ⌜ Joins 64 (now arcs) × (length (now row) ≡ 64) × (i < arcCount (now arcs)) ⌝ }
     ensures { λ _. ⌜ Keeps cap (now (arcs .entry)) (now (row .entry)) (now (row .exit)) ⌝ }
 {
     if rows::try_arc(arcs, row, i, cap) {
-        return nodes | 1u64 << arcs[i * 3 + 1];
+        return active | 1u64 << arcs[i * 3 + 1];
     }
-    nodes
+    active
 }
 
-// Tries the arcs that leave node `u`, if it is one of the nodes whose arcs are to be tried.
-fn spread_node(arcs: &[u32], chains: &[u32], row: &mut [u32], u: usize, nodes: u64, cap: u32) -> u64
+// Tries the arcs that leave node `u`, if it is active.
+fn spread_node(
+    arcs: &[u32],
+    chains: &[u32],
+    row: &mut [u32],
+    u: usize,
+    active: u64,
+    cap: u32,
+) -> u64
     requires { ⌜ Joins 64 (now arcs) × Chained (arcCount (now arcs)) (now chains) × (length (now row) ≡ 64) × (u < 64) ⌝ }
     ensures { λ _. ⌜ Keeps cap (now (arcs .entry)) (now (row .entry)) (now (row .exit)) ⌝ }
 {
-    if (nodes >> u) % 2 == 0 {
-        return nodes;
+    if (active >> u) % 2 == 0 {
+        return active;
     }
-    let mut left = nodes ^ 1u64 << u;
+    let mut left = active ^ 1u64 << u;
     let mut k = chains[u];
     while k > 0 {
         let i = k as usize - 1;
@@ -76,11 +83,11 @@ fn spread_node(arcs: &[u32], chains: &[u32], row: &mut [u32], u: usize, nodes: u
 }
 
 // The same for each node in turn.
-fn spread_all(arcs: &[u32], chains: &[u32], row: &mut [u32], nodes: u64, cap: u32) -> u64
+fn spread_all(arcs: &[u32], chains: &[u32], row: &mut [u32], active: u64, cap: u32) -> u64
     requires { ⌜ Joins 64 (now arcs) × Chained (arcCount (now arcs)) (now chains) × (length (now row) ≡ 64) ⌝ }
     ensures { λ _. ⌜ Keeps cap (now (arcs .entry)) (now (row .entry)) (now (row .exit)) ⌝ }
 {
-    let mut left = nodes;
+    let mut left = active;
     let mut u = 0;
     while u < ROW_LENGTH {
         left = spread_node(arcs, chains, row, u, left, cap);
@@ -89,7 +96,8 @@ fn spread_all(arcs: &[u32], chains: &[u32], row: &mut [u32], nodes: u64, cap: u3
     left
 }
 
-// Tries arcs outward from `from`, each node's arcs again where its entry was cut. This alone leaves a row settled but for rare graphs; `settle` makes sure.
+// Tries the arcs outward from `from`, those of a node again where its entry was cut. This alone settles a row but in rare graphs, and `settle`
+// makes sure: it costs one sweep then, where sweeps alone may take one for each node.
 fn spread_from(arcs: &[u32], chains: &[u32], row: &mut [u32], from: usize, cap: u32)
     requires { ⌜ Joins 64 (now arcs) × Chained (arcCount (now arcs)) (now chains) × (length (now row) ≡ 64) × (from < 64) ⌝ }
     ensures { λ _. ⌜ Keeps cap (now (arcs .entry)) (now (row .entry)) (now (row .exit)) ⌝ }
@@ -105,7 +113,7 @@ fn spread_from(arcs: &[u32], chains: &[u32], row: &mut [u32], from: usize, cap: 
     }
 }
 
-// The same for a row that holds anything.
+// Leaves in `row` the least length from `from` to each node over the packed arcs, whatever it held; MISSING above `cap`.
 fn fill_row(arcs: &[u32], chains: &[u32], marks: &[u8], from: usize, row: &mut [u32], cap: u32)
     requires { ⌜ Joins 64 (now arcs) × Chained (arcCount (now arcs)) (now chains) ⌝ }
     requires { ⌜ (length (now row) ≡ 64) × (from < 64) × (from < length (now marks)) × (cap < missing) ⌝ }
@@ -158,7 +166,7 @@ pub fn row_to(nodes: usize, arcs: &[u32], marks: &[u8], to: usize, row: &mut [u3
     row_from(nodes, &back[..n], marks, to, row, cap);
 }
 
-// Fills the row of each start, whatever the work held.
+// Fills the row of each start, whatever the work held. Row `i` has the 64 numbers of the work from `i` * 64 on.
 pub fn fill_rows(arcs: &[u32], marks: &[u8], starts: &[usize], work: &mut [u32], cap: u32)
     requires { ⌜ Joins 64 (now arcs) × StartsFit (now marks) (now starts) (now work) × (cap < missing) × (length (now arcs) ≤ 1536) ⌝ }
     ensures { λ _. ⌜ ((N : Net) → StartsOf N (now (arcs .entry)) (now (marks .entry)) (now (starts .entry)) → RowsAre N cap (now (starts .entry)) (length (now (starts .entry))) (now (work .exit))) ⌝ }

@@ -1,4 +1,4 @@
--- `lengths::better` meets its contract. Assumes nothing.
+-- `lengths::better` meets its contract: a goal that is not in the set adds none, and the lesser of a length and none is that length. Assumes nothing.
 use mathlib.Core.Path.{_≡_, sym, _∙_}
 use mathlib.Core.Bool.{true, false}
 use Rattle.walks.specs.Lengths.{plus}

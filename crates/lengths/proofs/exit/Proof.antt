@@ -1,4 +1,4 @@
--- `lengths::exit` meets its contract. Assumes nothing.
+-- `lengths::exit` meets its contract: an item below the nodes is a node, any other an arc with its head at the second of three numbers. Assumes nothing.
 use Prim.Native.Nat.{_+_, _-_, _*_}
 use mathlib.Core.Path.{sym}
 use mathlib.Core.List.{[]}

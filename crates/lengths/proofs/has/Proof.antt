@@ -1,4 +1,4 @@
--- `lengths::has` meets its contract. Assumes nothing.
+-- `lengths::has` meets its contract: bit `i` is the digit of 2 ^ `i`. Assumes nothing.
 use mathlib.Core.Path.{sym}
 use Rattle.lengths.proofs.SetLaws.{has-digit}
 use borrow.Author.Needs.{needs}

@@ -1,4 +1,4 @@
--- `lengths::least` meets its contract. Assumes nothing.
+-- `lengths::least` meets its contract: the rows and the notes begin the table, the filled table has the set of all goals, and each part leaves the work behind it. Assumes nothing.
 use mathlib.Core.Path.{refl, _∙_}
 use native.Mathlib.Omega.{arith}
 use Rattle.rows.specs.Held.{held}

@@ -1,4 +1,4 @@
--- `lengths::lesser` meets its contract. Assumes nothing.
+-- `lengths::lesser` meets its contract: the number for what is missing is above every length held. Assumes nothing.
 use Rattle.rows.proofs.HeldLaws.{holds, is-held, lesser-first, lesser-second}
 use Rattle.lengths.proofs.lesser.Statement.{statement}
 use Rattle.lengths.proofs.lesser.Tie as tie

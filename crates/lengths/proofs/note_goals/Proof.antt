@@ -1,4 +1,4 @@
--- `lengths::note_goals` meets its contract. Assumes nothing.
+-- `lengths::note_goals` meets its contract. The loop's invariant: the goals below `i` are noted, and the work beside the notes is as it was. Assumes nothing.
 use mathlib.Core.Path.{_≡_, refl, _∙_}
 use Prim.Native.Nat.{_+_, _-_, _≤_, _<_}
 use native.Mathlib.Omega.{arith}

@@ -1,4 +1,4 @@
--- `lengths::own` meets its contract. Assumes nothing.
+-- `lengths::own` meets its contract: a node adds 0, a forbidden arc or one above the cap is missing, and any other adds its weight. Assumes nothing.
 use native.Mathlib.Omega.{arith}
 use denote.Ref.{now}
 use borrow.Author.Tests.{eq-eqb, ne-eqb}

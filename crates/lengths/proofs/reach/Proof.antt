@@ -1,4 +1,4 @@
--- `lengths::reach` meets its contract. Assumes nothing.
+-- `lengths::reach` meets its contract. The loop's invariant: `r` is the least over the goals below `i` as the last one; the law of the last goal does the rest. Assumes nothing.
 use mathlib.Core.Path.{_≡_, subst}
 use mathlib.Core.List.{List}
 use Prim.Native.Nat.{ℕ, _-_, _≤_}

@@ -1,4 +1,4 @@
--- `lengths::set_starts` meets its contract. Assumes nothing.
+-- `lengths::set_starts` meets its contract. The loop's invariant: the starts of the goals below `i` are written. Assumes nothing.
 use mathlib.Core.Path.{_≡_, refl, _∙_}
 use Prim.Native.Nat.{_+_, _-_, _≤_}
 use native.Mathlib.Omega.{arith}

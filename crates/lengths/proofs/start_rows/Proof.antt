@@ -1,4 +1,4 @@
--- `lengths::start_rows` meets its contract. Assumes nothing.
+-- `lengths::start_rows` meets its contract: the packed arcs are the open ones, and the starts the source and the goals' exits. Assumes nothing.
 use Prim.Native.Nat.{_+_, _*_, _<_}
 use mathlib.Core.Path.{sym}
 use native.Mathlib.Omega.{arith}

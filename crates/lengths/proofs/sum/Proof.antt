@@ -1,4 +1,4 @@
--- `lengths::sum` meets its contract. Assumes nothing.
+-- `lengths::sum` meets its contract: a sum is above the cap by its first number, by both, or not at all. Assumes nothing.
 use native.Mathlib.Omega.{arith}
 use Rattle.rows.proofs.HeldLaws.{holds, is-held, sum-over, sum-both, sum-low}
 use borrow.Author.Needs.{needs}

@@ -1,4 +1,4 @@
--- `rows::pack_arc` meets its contract. Assumes nothing.
+-- `rows::pack_arc` meets its contract: an arc that is not open is left out, and an open one is put behind the others. Assumes nothing.
 use Prim.Native.Nat.{_^_, _<_}
 use native.Mathlib.Omega.{arith}
 use denote.Ref.{now}

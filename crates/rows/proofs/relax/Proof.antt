@@ -1,4 +1,4 @@
--- `rows::relax` meets its contract. Assumes nothing.
+-- `rows::relax` meets its contract: a candidate above the cap or no shorter leaves the row, and any other cuts the entry. Assumes nothing.
 use native.Mathlib.Omega.{arith}
 use Rattle.rows.specs.Rows.{same, cut}
 use borrow.Author.Needs.{needs}

@@ -1,4 +1,4 @@
--- `rows::start` meets its contract. Assumes nothing.
+-- `rows::start` meets its contract: the two arms are the two cases of `Started`. Assumes nothing.
 use mathlib.Core.Path.{refl}
 use mathlib.Core.Logic.{inl, inr}
 use borrow.Author.Needs.{needs}

@@ -1,4 +1,4 @@
--- `rows::sweep` meets its contract. Assumes nothing.
+-- `rows::sweep` meets its contract: an upward sweep that changes nothing is quiet, and after any other the downward sweep tells. Assumes nothing.
 use mathlib.Core.Path.{refl}
 use Rattle.rows.proofs.RowLaws.{round-up, round-down}
 use borrow.Author.Needs.{needs}

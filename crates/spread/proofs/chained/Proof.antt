@@ -1,4 +1,4 @@
--- `spread::chained` meets its contract. Assumes nothing.
+-- `spread::chained` meets its contract. The loop's invariant: the chains of the arcs below `i` end. Assumes nothing.
 use Prim.Native.Nat.{_-_, _≤_, _<_}
 use mathlib.Core.Path.{_≡_}
 use native.Mathlib.Omega.{arith}

@@ -1,4 +1,4 @@
--- `spread::fill` meets its contract. Assumes nothing.
+-- `spread::fill` meets its contract. The loop's invariant: the entries below `i` are stored, the others as they were. Assumes nothing.
 use mathlib.Core.Path.{_≡_, refl, ap, _∙_}
 use mathlib.Core.List.{List, _++_}
 use Prim.Native.Nat.{ℕ, _-_, _≤_}

@@ -1,4 +1,4 @@
--- `spread::row_from` meets its contract. Assumes nothing.
+-- `spread::row_from` meets its contract: the packed arcs are the open ones of the graph. Assumes nothing.
 use mathlib.Core.Path.{refl, sym}
 use native.Mathlib.Omega.{arith}
 use lib.Seq.{length-take-le}

@@ -1,4 +1,4 @@
--- `spread::row_to` meets its contract. Assumes nothing.
+-- `spread::row_to` meets its contract: a row from `to` over the exchanged arcs is a row to `to`, since reversed walks have the same lengths. Assumes nothing.
 use mathlib.Core.Path.{sym}
 use native.Mathlib.Omega.{arith}
 use lib.ListN.{length}

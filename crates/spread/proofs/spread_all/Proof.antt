@@ -1,4 +1,4 @@
--- `spread::spread_all` meets its contract. Assumes nothing.
+-- `spread::spread_all` meets its contract. The loop's invariant: a good row is good still. Assumes nothing.
 use Prim.Native.Nat.{_-_}
 use mathlib.Core.Path.{_≡_, refl, _∙_}
 use native.Mathlib.Omega.{arith}

@@ -1,4 +1,4 @@
--- `spread::try_adding` meets its contract. Assumes nothing.
+-- `spread::try_adding` meets its contract: trying an arc keeps a row good. Assumes nothing.
 use native.Mathlib.Omega.{arith}
 use Rattle.rows.proofs.RowLaws.{fits, keep}
 use borrow.Author.Needs.{needs}

@@ -1,4 +1,4 @@
--- `spread::turned` meets its contract. Assumes nothing.
+-- `spread::turned` meets its contract. The loop's invariant: the arcs below `i` are exchanged. Assumes nothing.
 use borrow.Author.Needs.{needs}
 use mathlib.Core.Path.{_≡_, refl, _∙_, subst}
 use Prim.Native.Nat.{ℕ, _-_, _/_, _≤_}
