@@ -9,11 +9,9 @@ use lib.Dec.{ltb}
 use borrow.Author.Tests.{lt-ltb}
 use Rattle.sections.specs.declared.Header.{Header}
 use Rattle.judge.specs.declared.Verdict.{Verdict}
-use Rattle.greedy.proofs.ListedLaws.{items-are}
-use Rattle.greedy.proofs.SameLaws.{small}
-use Rattle.greedy.specs.Turns.{Judged}
-use Rattle.judge.proofs.JudgeLaws.{goals-at, listed-front}
-use Rattle.judge.specs.Ready.{Whole}
+use Rattle.varint.specs.Answer.{small}
+use Rattle.judge.proofs.JudgeLaws.{items-are, goals-at, listed-front}
+use Rattle.judge.specs.Ready.{Judged, Whole}
 use Rattle.lengths.specs.Table.{GoalsFit}
 use Rattle.lists.proofs.AscendLaws.{ascends-distinct}
 use Rattle.lists.proofs.Pigeonhole.{Below, below-le}
@@ -21,25 +19,20 @@ use Rattle.lists.proofs.TestLaws.{true-and}
 use Rattle.lists.specs.Lists.{front, every}
 use Rattle.reader.specs.Answer.{sheetOf}
 use Rattle.rows.specs.Net.{netOf}
-use Rattle.rows.specs.Rows.{Good}
+use Rattle.sheet.specs.Good.{Good}
 use Rattle.sheet.proofs.SlipLaws.{Small, slip-size, numbers-below}
 use Rattle.sheet.specs.Sheet.{Sheet, required}
-use Rattle.sheet.specs.Slip.{Slip, slipNumbers, slipBytes}
+use Rattle.sheet.specs.Slip.{Slip, slipNumbers, slipBytes, marksBytes}
+use Rattle.slip.proofs.FormLaws.{small-below}
 use Rattle.slip.specs.Form.{slipFrom}
 use Rattle.verdict.proofs.SlipOfPass.{marks-are, slip-small, Goals, verdict-goals, reasons-count}
 use Rattle.verdict.proofs.VerdictLaws.{refused-goals, verdict-low}
 use Rattle.verdict.specs.Verdict.{fitsSheet, verdict, newMarks, reasonsFor, slipFor, passSlip}
 use Rattle.walks.specs.Graph.{itemCount}
 
--- numbers below 16,384 can be written
-below-small : (xs : List ℕ) → Below 16384 xs → small xs ≡ true
-unfolding small every
-below-small [] b = refl
-below-small (x ∷ xs) b = true-and (lt-ltb x 268435456 (omega (arith, b .0))) (below-small xs (b .1))
-
 -- a small slip can be written into 1,200 bytes
 pub slip-writes : (s : Slip) (n : ℕ) → Small s → 1200 ≤ n → (small (slipNumbers s) ≡ true) × (length (slipBytes s) ≤ n)
-slip-writes s n b l = (below-small (slipNumbers s) (numbers-below s b), omega (arith, slip-size s b .0))
+slip-writes s n b l = (small-below 16384 (slipNumbers s) (omega arith) (numbers-below s b), omega (arith, slip-size s b .0))
 
 -- at most as many reasons as items
 pub reasons-inside : {h : Header} {arcs marks : List ℕ} → Whole h arcs marks → (goals out : List ℕ) (k : ℕ)
@@ -86,7 +79,7 @@ module _ {h : Header} {arcs marks : List ℕ} (W : Whole h arcs marks) (v : Verd
     blames-slip = go (verdict (sheetOf h arcs marks) .number) refl
       where
         go : (m : ℕ) → verdict (sheetOf h arcs marks) .number ≡ m
-            → slipBytes (slipFor (sheetOf h arcs marks) m (verdict (sheetOf h arcs marks) .goals)) ≡ elim m as (λ m. List ℕ) [ zero ↦ _ | suc k ↦ slipBytes (slipFor (sheetOf h arcs marks) (suc k) (verdict (sheetOf h arcs marks) .goals)) ]
+            → slipBytes (slipFor (sheetOf h arcs marks) m (verdict (sheetOf h arcs marks) .goals)) ≡ elim m as (λ m. List ℕ) [ zero ↦ marksBytes (newMarks (sheetOf h arcs marks)) | suc k ↦ slipBytes (slipFor (sheetOf h arcs marks) (suc k) (verdict (sheetOf h arcs marks) .goals)) ]
         go zero e = absurd (refused e)
         go (suc k) e = refl
 

@@ -39,7 +39,7 @@ module _ (sheet work slip : List ℕ) (g : 16384 ≤ length work) (h : 1200 ≤ 
   bad-sheet w e = rw (long-enough (passOn sheet), accepted-taken sheet, e, le-leb w 13 (taken-refuses sheet w e .1))
 
   -- the sheet is taken: the slip in front, the work zeroed
-  pub good-sheet : (S : Sheet) (n : ℕ) (work₁ slip₁ : List ℕ) → taken sheet ≡ got S [] → n ≡ length (passSlip S (verdict S)) → drop 16384 work₁ ≡ drop 16384 work
-      → slip₁ ≡ front (passSlip S (verdict S)) slip → record { number = 0; length = n; work = zeroed work₁; slip = slip₁ } ≡ passed sheet work slip
+  pub good-sheet : (S : Sheet) (n : ℕ) (work₁ work₂ slip₁ : List ℕ) → taken sheet ≡ got S [] → n ≡ length (passSlip S (verdict S)) → drop 16384 work₁ ≡ drop 16384 work
+      → work₂ ≡ zeroed work₁ → slip₁ ≡ front (passSlip S (verdict S)) slip → record { number = 0; length = n; work = work₂; slip = slip₁ } ≡ passed sheet work slip
   unfolding passed passOn answerOf after outcome zeroed
-  good-sheet S n work₁ slip₁ e l w s = rw (long-enough (passOn sheet), accepted-taken sheet, e, l, w, s)
+  good-sheet S n work₁ work₂ slip₁ e l w z s = rw (long-enough (passOn sheet), accepted-taken sheet, e, l, z, w, s)

@@ -48,7 +48,14 @@ fn write_stands(header: Header, arcs: &[u32], marks: &[u8], rows: &[u32], slip: 
 }
 
 // Writes the reasons for the goals over the front of `list` and gives their count.
-pub fn list_reasons(header: Header, arcs: &[u32], marks: &[u8], goals: &[usize], work: &mut [u32], list: &mut [usize]) -> usize
+pub fn list_reasons(
+    header: Header,
+    arcs: &[u32],
+    marks: &[u8],
+    goals: &[usize],
+    work: &mut [u32],
+    list: &mut [u32],
+) -> usize
     requires { ⌜ Whole header (now arcs) (now marks) × GoalsFit (netOf (header .nodes) (now arcs) (now marks)) (now goals) ⌝ }
     requires { ⌜ (16384 ≤ length (now work)) × (576 ≤ length (now list)) × (fitsSheet (sheetOf header (now arcs) (now marks)) (now goals) ≡ false) ⌝ }
     ensures { λ r. ⌜ r ≡ length (reasonsFor (sheetOf header (now (arcs .entry)) (now (marks .entry))) (now (goals .entry))) ⌝ }
@@ -65,7 +72,13 @@ pub fn list_reasons(header: Header, arcs: &[u32], marks: &[u8], goals: &[usize],
 }
 
 // Writes the slip of a taken sheet over the front of `slip` and gives its length.
-fn write_answer(header: Header, arcs: &[u32], marks: &[u8], work: &mut [u32], slip: &mut [u8]) -> usize
+fn write_answer(
+    header: Header,
+    arcs: &[u32],
+    marks: &[u8],
+    work: &mut [u32],
+    slip: &mut [u8],
+) -> usize
     requires { ⌜ Whole header (now arcs) (now marks) × (16384 ≤ length (now work)) × (1200 ≤ length (now slip)) ⌝ }
     ensures { λ r. ⌜ r ≡ length (passSlip (sheetOf header (now (arcs .entry)) (now (marks .entry))) (verdictOf (sheetOf header (now (arcs .entry)) (now (marks .entry))))) ⌝ }
     ensures { λ _. ⌜ now (slip .exit) ≡ front (passSlip (sheetOf header (now (arcs .entry)) (now (marks .entry))) (verdictOf (sheetOf header (now (arcs .entry)) (now (marks .entry))))) (now (slip .entry)) ⌝ }
@@ -79,7 +92,7 @@ fn write_answer(header: Header, arcs: &[u32], marks: &[u8], work: &mut [u32], sl
         return write_stands(header, arcs, marks, &rows, slip);
     }
     let count = verdict.count;
-    let mut list = [0usize; ITEMS];
+    let mut list = [0u32; ITEMS];
     let n = list_reasons(header, arcs, marks, &goals[..count], work, &mut list);
     slip::write_slip(slip, verdict.number, &goals[..count], &list[..n])
 }
@@ -89,16 +102,25 @@ pub fn pass(sheet: &[u8], work: &mut [u32], slip: &mut [u8]) -> Answer
     ensures { λ r. ⌜ record { number = r .number; length = r .length; work = now (work .exit); slip = now (slip .exit) } ≡ passed (now (sheet .entry)) (now (work .entry)) (now (slip .entry)) ⌝ }
 {
     if work.len() < WORK_NUMBERS {
-        return Answer { number: 1, length: 0 };
+        return Answer {
+            number: 1,
+            length: 0,
+        };
     }
     if slip.len() < SLIP_BYTES {
-        return Answer { number: 2, length: 0 };
+        return Answer {
+            number: 2,
+            length: 0,
+        };
     }
     let mut arcs = [0u32; ARC_NUMBERS];
     let mut marks = [0u8; ITEMS];
     let header = match reader::read(sheet, &mut arcs, &mut marks) {
         SheetRead::Taken(header) => header,
-        SheetRead::Refused(why) => return Answer { number: why, length: 0 },
+        SheetRead::Refused(why) => return Answer {
+            number: why,
+            length: 0,
+        },
     };
     let numbers = 3 * header.arcs;
     let items = header.nodes + header.arcs;

@@ -28,7 +28,7 @@ same-length-2 c = search needs
 -- src/lib.rt:51:1
 returns : tie.Need-returns
 unfolding reasonsFor
-returns c = let r = c .before .before .before .before .list-reasons .ensures in (r .1 .0, r .0, r .1 .1)
+returns c = let r = c .before .before .before .before .list-reasons .ensures in (r .1 .0, (r .0, r .1 .1))
 
 pub list-reasons-spec : {M : Type 1} → statement M
 list-reasons-spec = tie.close (tie.spec list-reasons-requires same-length same-length-2 returns)

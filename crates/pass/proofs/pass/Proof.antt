@@ -1,5 +1,11 @@
 -- `pass::pass` meets its contract, case by case. Assumes nothing.
-use mathlib.Core.Path.{sym, _∙_}
+use Prim.Native.Nat.{_+_, _*_}
+use mathlib.Core.Path.{sym, ap, _∙_}
+use mathlib.Core.List.{[]}
+use lib.ListN.{take}
+use Rattle.varint.specs.Varint.{got}
+use Rattle.sheet.specs.Sheet.{Sheet}
+use Rattle.reader.specs.Answer.{sheetOf}
 use native.Mathlib.Omega.{arith}
 use Rattle.judge.proofs.LoadedLaws.{loaded, unloaded}
 use Rattle.pass.proofs.PassLaws.{short-work, short-slip, bad-sheet, good-sheet}
@@ -49,31 +55,31 @@ returns-3 c =
 
 -- src/lib.rt:103:19
 mul-numbers : tie.Need-mul-numbers
-mul-numbers c = let L = load (c .before .before .before .before .before .before .before .before .before .before .before .before .before .before .before) in omega (arith, L .whole .few)
+mul-numbers c = let L = loaded (c .before .before .before .before .before .before .before .before .before .before .before .before .before .before .args .sheet .now) _ _ (c .before .before .before .before .before .before .read .last .1 .0) (c .before .before .before .before .before .before .read .last .1 .1 .0) (c .before .before .header .given .0 .0) (sym (c .before .before .header .given .1) ∙ c .before .before .before .before .before .before .read .ensures .0) (c .before .before .before .before .before .before .read .ensures .1 .0) (c .before .before .before .before .before .before .read .ensures .1 .1) in omega (arith, L .whole .few)
 
 -- src/lib.rt:104:17
 add-items : tie.Need-add-items
-add-items c = ?
+add-items c = let L = loaded (c .before .before .before .before .before .before .before .before .before .before .before .before .before .before .before .args .sheet .now) _ _ (c .before .before .before .before .before .before .before .read .last .1 .0) (c .before .before .before .before .before .before .before .read .last .1 .1 .0) (c .before .before .before .header .given .0 .0) (sym (c .before .before .before .header .given .1) ∙ c .before .before .before .before .before .before .before .read .ensures .0) (c .before .before .before .before .before .before .before .read .ensures .1 .0) (c .before .before .before .before .before .before .before .read .ensures .1 .1) in omega (arith, L .whole .few, L .whole .proper .few)
 
 -- src/lib.rt:105:39
 array-share-prefix-arcs : tie.Need-array-share-prefix-arcs
-array-share-prefix-arcs c = ?
+array-share-prefix-arcs c = let L = loaded (c .before .before .before .before .before .before .before .before .before .before .before .before .before .before .before .args .sheet .now) _ _ (c .before .before .before .before .before .before .before .read .last .1 .0) (c .before .before .before .before .before .before .before .read .last .1 .1 .0) (c .before .before .before .header .given .0 .0) (sym (c .before .before .before .header .given .1) ∙ c .before .before .before .before .before .before .before .read .ensures .0) (c .before .before .before .before .before .before .before .read .ensures .1 .0) (c .before .before .before .before .before .before .before .read .ensures .1 .1) in omega (arith, L .whole .few, c .before .before .before .before .before .before .before .read .kept .1 .0)
 
 -- src/lib.rt:105:39
 slice-aggregate-write-answer : tie.Need-slice-aggregate-write-answer
-slice-aggregate-write-answer c = ?
+slice-aggregate-write-answer c = let L = loaded (c .before .before .before .before .before .before .before .before .before .before .before .before .before .before .before .before .args .sheet .now) _ _ (c .before .before .before .before .before .before .before .before .read .last .1 .0) (c .before .before .before .before .before .before .before .before .read .last .1 .1 .0) (c .before .before .before .before .header .given .0 .0) (sym (c .before .before .before .before .header .given .1) ∙ c .before .before .before .before .before .before .before .before .read .ensures .0) (c .before .before .before .before .before .before .before .before .read .ensures .1 .0) (c .before .before .before .before .before .before .before .before .read .ensures .1 .1) in sym (L .whole .held .0)
 
 -- src/lib.rt:105:57
 array-share-prefix-marks : tie.Need-array-share-prefix-marks
-array-share-prefix-marks c = ?
+array-share-prefix-marks c = let L = loaded (c .before .before .before .before .before .before .before .before .before .before .before .before .before .before .before .before .args .sheet .now) _ _ (c .before .before .before .before .before .before .before .before .read .last .1 .0) (c .before .before .before .before .before .before .before .before .read .last .1 .1 .0) (c .before .before .before .before .header .given .0 .0) (sym (c .before .before .before .before .header .given .1) ∙ c .before .before .before .before .before .before .before .before .read .ensures .0) (c .before .before .before .before .before .before .before .before .read .ensures .1 .0) (c .before .before .before .before .before .before .before .before .read .ensures .1 .1) in omega (arith, L .whole .few, L .whole .proper .few, c .before .before .before .before .before .before .before .before .read .kept .1 .1 .0)
 
 -- src/lib.rt:105:57
 slice-aggregate-write-answer-2 : tie.Need-slice-aggregate-write-answer-2
-slice-aggregate-write-answer-2 c = ?
+slice-aggregate-write-answer-2 c = let L = loaded (c .before .before .before .before .before .before .before .before .before .before .before .before .before .before .before .before .before .args .sheet .now) _ _ (c .before .before .before .before .before .before .before .before .before .read .last .1 .0) (c .before .before .before .before .before .before .before .before .before .read .last .1 .1 .0) (c .before .before .before .before .before .header .given .0 .0) (sym (c .before .before .before .before .before .header .given .1) ∙ c .before .before .before .before .before .before .before .before .before .read .ensures .0) (c .before .before .before .before .before .before .before .before .before .read .ensures .1 .0) (c .before .before .before .before .before .before .before .before .before .read .ensures .1 .1) in sym (L .whole .held .1)
 
 -- src/lib.rt:105:9
 write-answer-requires : tie.Need-write-answer-requires
-write-answer-requires c κs = ?
+write-answer-requires c κs = let L = loaded (c .before .before .before .before .before .before .before .before .before .before .before .before .before .before .before .before .before .before .before .args .sheet .now) _ _ (c .before .before .before .before .before .before .before .before .before .before .before .read .last .1 .0) (c .before .before .before .before .before .before .before .before .before .before .before .read .last .1 .1 .0) (c .before .before .before .before .before .before .before .header .given .0 .0) (sym (c .before .before .before .before .before .before .before .header .given .1) ∙ c .before .before .before .before .before .before .before .before .before .before .before .read .ensures .0) (c .before .before .before .before .before .before .before .before .before .before .before .read .ensures .1 .0) (c .before .before .before .before .before .before .before .before .before .before .before .read .ensures .1 .1) in (L .whole, c .before .before .before .before .before .before .before .before .before .before .before .before .before .before .before .if1 .left, c .before .before .before .before .before .before .before .before .before .before .before .before .before .before .if2 .left)
 
 -- src/lib.rt:106:5
 zero-requires : tie.Need-zero-requires
@@ -89,7 +95,12 @@ same-length-2 c = search needs
 
 -- src/lib.rt:88:1
 returns-4 : tie.Need-returns-4
-returns-4 c = ?
+returns-4 c =
+    let s = c .before .before .before .before .before .before .before .before .before .before .before .before .before .before .before .before .before .before .before .before .before .before .before .before .before .before .before .before in
+    let L = loaded (c .before .before .before .before .before .before .before .before .before .before .before .before .before .before .before .before .before .before .before .before .before .before .before .before .before .before .before .before .args .sheet .now) _ _ (c .before .before .before .before .before .before .before .before .before .before .before .before .before .before .before .before .before .before .before .before .read .last .1 .0) (c .before .before .before .before .before .before .before .before .before .before .before .before .before .before .before .before .before .before .before .before .read .last .1 .1 .0) (c .before .before .before .before .before .before .before .before .before .before .before .before .before .before .before .before .header .given .0 .0) (sym (c .before .before .before .before .before .before .before .before .before .before .before .before .before .before .before .before .header .given .1) ∙ c .before .before .before .before .before .before .before .before .before .before .before .before .before .before .before .before .before .before .before .before .read .ensures .0) (c .before .before .before .before .before .before .before .before .before .before .before .before .before .before .before .before .before .before .before .before .read .ensures .1 .0) (c .before .before .before .before .before .before .before .before .before .before .before .before .before .before .before .before .before .before .before .before .read .ensures .1 .1) in
+    let w = c .before .before .before .before .before .before .before .before .write-answer in
+    good-sheet (s .args .sheet .now) (s .args .work .now) (s .args .slip .now) (c .before .before .before .before .before .before .before .before .before .before .before .before .before .before .before .before .before .before .before .before .before .before .before .before .if1 .left) (c .before .before .before .before .before .before .before .before .before .before .before .before .before .before .before .before .before .before .before .before .before .before .before .if2 .left) (sheetOf (c .before .before .before .before .before .before .before .before .before .before .before .before .before .before .before .before .header .given .0 .0) (take (3 * c .before .before .before .before .before .before .before .before .before .before .before .before .before .before .before .before .header .given .0 .0 .arcs) (c .before .before .before .before .before .before .before .before .before .before .before .before .before .before .before .before .before .before .before .before .read .last .1 .0)) (take (c .before .before .before .before .before .before .before .before .before .before .before .before .before .before .before .before .header .given .0 .0 .nodes + c .before .before .before .before .before .before .before .before .before .before .before .before .before .before .before .before .header .given .0 .0 .arcs) (c .before .before .before .before .before .before .before .before .before .before .before .before .before .before .before .before .before .before .before .before .read .last .1 .1 .0)))
+    (w .result) (w .last .1 .1 .1 .0) (c .before .before .zero .last .0) (w .last .1 .1 .1 .1 .0) (L .took ∙ ap (λ (S : Sheet). got S []) (sym (L .same))) (w .ensures .0) (w .ensures .1 .1) (c .before .before .zero .ensures) (w .ensures .1 .0)
 
 pub pass-spec : {M : Type 1} → statement M
 pass-spec =

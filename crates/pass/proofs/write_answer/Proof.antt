@@ -62,7 +62,7 @@ returns c =
     let j = c .before .before .before .before .before .before .before .before .before .before .judge in
     let w = c .before .before .write-stands in
     let e = stands-slip (s .pre .0) (j .result) (j .last .1 .1 .1 .1 .0) (j .ensures .0) (c .before .before .before .before .before .if1 .taken) in
-    (w .ensures .0 ∙ ap length e, w .ensures .1 ∙ ap (λ (xs : List ℕ). front xs (s .args .slip .now)) e, j .ensures .1)
+    (w .ensures .0 ∙ ap length e, (w .ensures .1 ∙ ap (λ (xs : List ℕ). front xs (s .args .slip .now)) e, j .ensures .1))
 
 -- src/lib.rt:83:47
 array-share-prefix-goals : tie.Need-array-share-prefix-goals
@@ -126,7 +126,7 @@ returns-2 c =
     let n = c .before .before .before .before .before .before .before .before .before .before .before .before .before .if1 .left in
     let e = ap slipBytes (named-slip (s .pre .0) (j .result) (j .last .1 .1 .1 .1 .0) (j .ensures .0) n _ (r .last .1 .1 .1 .1 .1 .0) (r .result) (r .ensures .0) (r .ensures .1 .0))
     ∙ blames-slip (s .pre .0) (j .result) (j .last .1 .1 .1 .1 .0) (j .ensures .0) n in
-    (w .ensures .0 ∙ ap length e, w .ensures .1 ∙ ap (λ (xs : List ℕ). front xs (s .args .slip .now)) e, r .ensures .1 .1 ∙ j .ensures .1)
+    (w .ensures .0 ∙ ap length e, (w .ensures .1 ∙ ap (λ (xs : List ℕ). front xs (s .args .slip .now)) e, r .ensures .1 .1 ∙ j .ensures .1))
 
 pub write-answer-spec : {M : Type 1} → statement M
 write-answer-spec =
