@@ -3,7 +3,7 @@ use Prim.Native.Nat.{ℕ, _+_, _*_, _-_, _%_, _^_, _≤_, _<_}
 use mathlib.Core.Path.{_≡_, refl, sym, ap, _∙_}
 use mathlib.Core.Logic.{_≢_}
 use mathlib.Core.List.{List, [], _∷_}
-use mathlib.Core.Bool.{true, false, true≢false}
+use mathlib.Core.Bool.{Bool, true, false}
 use native.Mathlib.Omega.{arith}
 use native.Mathlib.Numerals.{add-one}
 use native.Mathlib.Nat.{pow-le-pow-right}
@@ -22,10 +22,11 @@ use Rattle.lengths.proofs.SetLaws.{chosen-count, last-in}
 use Rattle.lengths.specs.Sets.{has, chosen, given, past, anyIn}
 use Rattle.lengths.specs.Table.{Filled, FilledTo, Asked, TableFits, TableOnly}
 
-pub lesser-none : (r : Least) → lesser r none ≡ r
-unfolding lesser
-lesser-none none = refl
-lesser-none (some k) = refl
+-- no sum with a length that is not given
+given-plus : (b : Bool) (p q : Least) → plus (given b p) q ≡ given b (plus p q)
+unfolding plus given
+given-plus true p q = refl
+given-plus false p q = refl
 
 -- an entry of a front that is as it was
 pub same-front : (n : ℕ) (u v : List ℕ) → take n v ≡ take n u → (k : ℕ) → k < n → getD v k 0 ≡ getD u k 0
@@ -47,25 +48,29 @@ module _ {N : Net} {cap a : ℕ} {goals : List ℕ} {k S v : ℕ} {work : List �
       rw z (K .rowed .first v (K .node))
 
   -- one goal more looked at
-  pub reach-more : (i r t : ℕ) → i < k → r ≡ held cap (anyIn (graph N) (closed N) a v goals S i)
-      → ((p q s : Least) → (has S i ≡ true → getD work (1024 + S * 8 + i) 0 ≡ held cap p) → getD work (64 + i * 64 + v) 0 ≡ held cap q → r ≡ held cap s
-      → t ≡ held cap (lesser s (given (has S i) (plus p q))))
-      → t ≡ held cap (anyIn (graph N) (closed N) a v goals S (i + 1))
+  pub reach-more : (i r t : ℕ) → i < k → cap < missing → held cap (some r) ≡ held cap (anyIn (graph N) (closed N) a v goals S i)
+      → ((cap : ℕ) (p q s : Least) → cap < missing → getD work (1024 + S * 8 + i) 0 ≡ held cap p → getD work (64 + i * 64 + v) 0 ≡ held cap q
+      → held cap (some r) ≡ held cap s → held cap (some t) ≡ held cap (lesser s (plus p q)))
+      → held cap (some t) ≡ held cap (anyIn (graph N) (closed N) a v goals S (i + 1))
   unfolding anyIn lastly past
-  reach-more i r t h e f =
+  reach-more i r t h c e f =
       let h′ : i < length goals = rw (K .counted) h in
-      rw add-one (f (past (graph N) (closed N) a goals (S - 2 ^ i) i) (least (graph N) (closed N) [] (exitOf (graph N) (getD goals i 0)) v) (anyIn (graph N) (closed N) a v goals S i)
-      (K .set i h′) (K .rowed .rows i h′ v (K .node)) e)
+      let p = past (graph N) (closed N) a goals (S - 2 ^ i) i in
+      let q = least (graph N) (closed N) [] (exitOf (graph N) (getD goals i 0)) v in
+      rw add-one
+      (f cap (given (has S i) p) q (anyIn (graph N) (closed N) a v goals S i) c (K .set i h′) (K .rowed .rows i h′ v (K .node)) e
+      ∙ ap (λ (x : Least). held cap (lesser (anyIn (graph N) (closed N) a v goals S i) x)) (given-plus (has S i) p q))
 
-  pub reach-done : (r : ℕ) → (ones S ≡ 0 → ⊥) → r ≡ held cap (anyIn (graph N) (closed N) a v goals S k)
-      → r ≡ held cap (least (graph N) (closed N) (chosen goals S) a v)
-  reach-done r n e =
+  pub reach-done : (r t : ℕ) → (ones S ≡ 0 → ⊥) → held cap (some r) ≡ held cap (anyIn (graph N) (closed N) a v goals S k) → t ≡ held cap (some r)
+      → t ≡ held cap (least (graph N) (closed N) (chosen goals S) a v)
+  reach-done r t n e f =
       let q = last-in (graph N) (closed N) a v goals S (K .fit .distinct) (λ i h. item-at N (getD goals i 0) (K .fit .below i h)) (rw (K .counted) (K .few)) n in
-      rw (q, K .counted) e
+      rw (q, K .counted) (f ∙ e)
 
-pub any-begun : (N : Net) (cap a v S : ℕ) (goals : List ℕ) → missing ≡ held cap (anyIn (graph N) (closed N) a v goals S 0)
+-- the number for what is missing stands for none
+pub any-begun : (N : Net) (cap a v S : ℕ) (goals : List ℕ) → cap < missing → held cap (some missing) ≡ held cap (anyIn (graph N) (closed N) a v goals S 0)
 unfolding anyIn
-any-begun N cap a v S goals = is-held (high tt)
+any-begun N cap a v S goals c = sym (is-held {r = some missing} (high c)) ∙ is-held {r = none} (high tt)
 
 -- what reach is asked for a set that is filled
 pub asked-of : {N : Net} {cap a : ℕ} {goals : List ℕ} {n : ℕ} {work : List ℕ} → Filled N cap a goals n work → (k S v : ℕ) → length goals ≡ k → S < n → S < 2 ^ k
@@ -89,13 +94,18 @@ past-is {N} {cap} {a} {goals} {n} {work} F k S i before r q h s hi reach sum =
     h′ : i < length goals
     h′ = omega arith
 
--- goal i is not in the set: nothing to store
-pub put-none : {N : Net} {cap a : ℕ} {goals : List ℕ} {S i : ℕ} {work : List ℕ} → has S i ≡ false → FilledTo N cap a goals S i work → FilledTo N cap a goals S (i + 1) work
-put-none {i = i} e F = record { filled = F .filled; set = below-more _ i (F .set) (λ q. absurd (true≢false (sym q ∙ e))) }
+-- the entry for a goal in the set, and for one that is not
+pub entry-in : (cap S i x : ℕ) (r : Least) → has S i ≡ true → x ≡ held cap r → x ≡ held cap (given (has S i) r)
+unfolding given
+entry-in cap S i x r h e = rw h e
+
+pub entry-out : (cap S i : ℕ) (r : Least) → has S i ≡ false → missing ≡ held cap (given (has S i) r)
+unfolding given
+entry-out cap S i r h = rw h (is-held (high tt))
 
 -- the entry of the set and goal i is stored, and all other entries are as they were
 pub put-one : {N : Net} {cap a : ℕ} {goals : List ℕ} {S i : ℕ} {work : List ℕ} (x : ℕ) → S < 256 → i < length goals → 3072 ≤ length work
-    → x ≡ held cap (past (graph N) (closed N) a goals (S - 2 ^ i) i) → FilledTo N cap a goals S i work → FilledTo N cap a goals S (i + 1) (set work (1024 + S * 8 + i) x)
+    → x ≡ held cap (given (has S i) (past (graph N) (closed N) a goals (S - 2 ^ i) i)) → FilledTo N cap a goals S i work → FilledTo N cap a goals S (i + 1) (set work (1024 + S * 8 + i) x)
 put-one {N} {cap} {a} {goals} {S} {i} {work} x s h l e F = record {
   filled = record {
     small = F .filled .small;
@@ -109,9 +119,9 @@ put-one {N} {cap} {a} {goals} {S} {i} {work} x s h l e F = record {
       owns = λ j hj. other (584 + j) (λ q. omega (arith, F .filled .fit .eight)) ∙ F .filled .noted .owns j hj;
     };
     inside = λ j hj. rw (other (576 + j) (λ q. omega (arith, F .filled .fit .eight))) (F .filled .inside j hj);
-    sets = λ T hT j hj q. other (1024 + T * 8 + j) (λ q. omega (arith, F .filled .fit .eight)) ∙ F .filled .sets T hT j hj q;
+    sets = λ T hT j hj. other (1024 + T * 8 + j) (λ q. omega (arith, F .filled .fit .eight)) ∙ F .filled .sets T hT j hj;
   };
-  set = below-more _ i (λ j hj q. other (1024 + S * 8 + j) (λ q. omega arith) ∙ F .set j hj q) (λ q. getD-set-same work at x 0 (omega (arith, F .filled .fit .eight)) ∙ e);
+  set = below-more _ i (λ j hj. other (1024 + S * 8 + j) (λ q. omega arith) ∙ F .set j hj) (getD-set-same work at x 0 (omega (arith, F .filled .fit .eight)) ∙ e);
 }
   where
     at : ℕ

@@ -1,7 +1,6 @@
 -- What lies in the work while the least length over goals is looked for: the rows (9 of 64 numbers: from the source, and from where each goal is
 -- left), from 576 on the node where each goal is entered, from 584 on each goal's own length, and from 1024 on the table, 8 entries for each set of goals.
 use mathlib.Core.Path.{_≡_}
-use mathlib.Core.Bool.{true}
 use mathlib.Core.List.{List, []}
 use Prim.Native.Nat.{ℕ, _+_, _*_, _-_, _^_, _≤_, _<_}
 use lib.ListN.{length, getD, take, drop}
@@ -11,7 +10,7 @@ use Rattle.rows.specs.Net.{Net, graph, closed, count}
 use Rattle.rows.specs.Rows.{RowIs}
 use Rattle.walks.specs.Goals.{entryOf, exitOf, ownOf}
 use Rattle.walks.specs.Graph.{Graph, least}
-use Rattle.lengths.specs.Sets.{has, past}
+use Rattle.lengths.specs.Sets.{has, given, past}
 
 -- at most 8 goals, different items of the graph
 pub record GoalsFit (N : Net) (goals : List ℕ) : Type 0 where
@@ -42,10 +41,10 @@ pub record NotedTo (N : Net) (cap : ℕ) (goals : List ℕ) (n : ℕ) (work : Li
 abbrev pub Noted : Net → ℕ → List ℕ → List ℕ → Type 0
 Noted N cap goals work = NotedTo N cap goals (length goals) work
 
--- the table's entries for the goals below n of a set
+-- the table's entries for the goals below n of a set: none for a goal that is not in it
 abbrev pub SetAt : Net → ℕ → ℕ → List ℕ → ℕ → ℕ → List ℕ → Type 0
 SetAt N cap a goals S n work =
-    (i : ℕ) → i < n → has S i ≡ true → getD work (1024 + S * 8 + i) 0 ≡ held cap (past (graph N) (closed N) a goals (S - 2 ^ i) i)
+    (i : ℕ) → i < n → getD work (1024 + S * 8 + i) 0 ≡ held cap (given (has S i) (past (graph N) (closed N) a goals (S - 2 ^ i) i))
 
 -- the work once the rows are done and the table's entries for the sets below n
 pub record Filled (N : Net) (cap a : ℕ) (goals : List ℕ) (n : ℕ) (work : List ℕ) : Type 0 where

@@ -3,13 +3,13 @@ ghost use mathlib.Core.Bool.{true};
 ghost use mathlib.Core.List.{List};
 ghost use Prim.Native.Nat.{ℕ, _+_, _*_, _^_, _≤_, _<_};
 ghost use lib.ListN.{length, getD, take, drop};
-ghost use Rattle.walks.specs.Lengths.{Least, plus, lesser as lesserOf};
+ghost use Rattle.walks.specs.Lengths.{Least, some, plus, lesser as lesserOf};
 ghost use Rattle.walks.specs.Graph.{least as leastOf, closedIn};
 ghost use Rattle.walks.specs.Goals.{entryOf, exitOf, ownOf};
 ghost use Rattle.walks.specs.Flat.{graphOf};
 ghost use Rattle.rows.specs.Held.{missing, code, atMost, held};
 ghost use Rattle.rows.specs.Net.{Net, netOf, graph, closed, arcCount, Proper, Joins};
-ghost use Rattle.lengths.specs.Sets.{has as hasOf, chosen, given, past as pastOf};
+ghost use Rattle.lengths.specs.Sets.{has as hasOf, chosen, past as pastOf};
 ghost use Rattle.lengths.specs.Table.{GoalsFit, StartsAre, Rowed, Noted, Filled, FilledTo, Asked, TableFits, TableOnly};
 
 // What stands for a length that is missing or above the cap.
@@ -107,14 +107,14 @@ fn sum(x: u32, y: u32, cap: u32) -> u32
     x + y
 }
 
-// The lesser of two lengths.
-fn lesser(x: u32, y: u32) -> u32
-    ensures { λ r. ⌜ ((cap : ℕ) (p q : Least) → cap < missing → x ≡ held cap p → y ≡ held cap q → r ≡ held cap (lesserOf p q)) ⌝ }
+// A length as the rows and the table hold it.
+fn capped(r: u64, cap: u32) -> u32
+    ensures { λ t. ⌜ t ≡ held cap (some r) ⌝ }
 {
-    if y < x {
-        return y;
+    if r > cap as u64 {
+        return MISSING;
     }
-    x
+    r as u32
 }
 
 // The set of goal `i` alone.
@@ -168,18 +168,16 @@ pub fn note_goals(
     }
 }
 
-// The lesser of `r` and the way on to `v` from goal `i` as the last goal of the set.
-fn better(work: &[u32], set: u32, i: usize, v: usize, cap: u32, r: u32) -> u32
-    requires { ⌜ (3072 ≤ length (now work)) × (set < 256) × (i < 8) × (v < 64) × (cap < missing) ⌝ }
-    ensures { λ t. ⌜ ((p q s : Least) → (hasOf set i ≡ true → getD (now (work .entry)) (1024 + set * 8 + i) 0 ≡ held cap p) → getD (now (work .entry)) (64 + i * 64 + v) 0 ≡ held cap q → r ≡ held cap s → t ≡ held cap (lesserOf s (given (hasOf set i) (plus p q)))) ⌝ }
+// The lesser of `r` and the way on to `v` from goal `i` as the last goal of the set. The sum is taken in 64 bits, where what is missing adds up to more
+// than any cap, so that no test stands in the loop's way.
+fn better(work: &[u32], set: u32, i: usize, v: usize, r: u64) -> u64
+    requires { ⌜ (3072 ≤ length (now work)) × (set < 256) × (i < 8) × (v < 64) ⌝ }
+    ensures { λ t. ⌜ ((cap : ℕ) (p q s : Least) → cap < missing → getD (now (work .entry)) (1024 + set * 8 + i) 0 ≡ held cap p → getD (now (work .entry)) (64 + i * 64 + v) 0 ≡ held cap q → held cap (some r) ≡ held cap s → held cap (some t) ≡ held cap (lesserOf s (plus p q))) ⌝ }
 {
-    if has(set, i) {
-        let t = sum(
-            work[TABLE + set as usize * GOALS + i],
-            work[GOAL_ROWS + i * ROW_LENGTH + v],
-            cap,
-        );
-        return lesser(r, t);
+    let before = work[TABLE + set as usize * GOALS + i];
+    let t = before as u64 + work[GOAL_ROWS + i * ROW_LENGTH + v] as u64;
+    if t < r {
+        return t;
     }
     r
 }
@@ -192,13 +190,13 @@ fn reach(work: &[u32], count: usize, set: u32, v: usize, cap: u32) -> u32
     if u32::count_ones(set) == 0 {
         return work[v];
     }
-    let mut r = MISSING;
+    let mut r = MISSING as u64;
     let mut i = 0;
     while i < count {
-        r = better(work, set, i, v, cap, r);
+        r = better(work, set, i, v, r);
         i += 1;
     }
-    r
+    capped(r, cap)
 }
 
 // The length past goal `i`, the goals of the set `rest` met before it.
@@ -211,7 +209,7 @@ fn past(work: &[u32], count: usize, rest: u32, i: usize, cap: u32) -> u32
     sum(before, work[OWN_LENGTHS + i], cap)
 }
 
-// Fills the table's entry for goal `i` as the last goal of the set, if it is in the set.
+// Fills the table's entry for goal `i` as the last goal of the set. A goal that is not in the set is missing.
 fn put(work: &mut [u32], count: usize, set: u32, i: usize, cap: u32)
     requires { ⌜ TableFits count (now work) × (set < 2 ^ count) × (i < count) × (cap < missing) ⌝ }
     ensures { λ _. ⌜ ((N : Net) (a : ℕ) (goals : List ℕ) → length goals ≡ count → FilledTo N cap a goals set i (now (work .entry)) → FilledTo N cap a goals set (i + 1) (now (work .exit))) ⌝ }
@@ -221,6 +219,8 @@ fn put(work: &mut [u32], count: usize, set: u32, i: usize, cap: u32)
         let rest = set - bit(i);
         let x = past(work, count, rest, i, cap);
         work[TABLE + set as usize * GOALS + i] = x;
+    } else {
+        work[TABLE + set as usize * GOALS + i] = MISSING;
     }
 }
 

@@ -1,80 +1,77 @@
--- `lengths::better` meets its contract: a goal that is not in the set adds none, and the lesser of a length and none is that length. Assumes nothing.
-use mathlib.Core.Path.{_≡_, sym, _∙_}
-use mathlib.Core.Bool.{true, false}
-use Rattle.walks.specs.Lengths.{plus}
-use Rattle.lengths.proofs.TableLaws.{lesser-none}
-use Rattle.lengths.specs.Sets.{has, given}
+-- `lengths::better` meets its contract: a sum that is above the cap stands for one that is, so the lesser number stands for the lesser length. Assumes nothing.
+use Prim.Native.Nat.{_+_, _*_}
+use native.Mathlib.Omega.{arith}
+use lib.ListN.{getD}
+use Rattle.lengths.proofs.LooseLaws.{better-sum, better-kept}
 use borrow.Author.Needs.{needs}
 use Rattle.lengths.proofs.better.Statement.{statement}
 use Rattle.lengths.proofs.better.Tie as tie
 
-has-requires : tie.Need-has-requires
-has-requires c κs = search needs
+mul-before : tie.Need-mul-before
+mul-before c = search needs
 
-mul-sum : tie.Need-mul-sum
-mul-sum c = search needs
+add-before : tie.Need-add-before
+add-before c = search needs
 
-add-sum : tie.Need-add-sum
-add-sum c = search needs
+add-before-2 : tie.Need-add-before-2
+add-before-2 c = search needs
 
-add-sum-2 : tie.Need-add-sum-2
-add-sum-2 c = search needs
+mul-before-2 : tie.Need-mul-before-2
+mul-before-2 c = search needs
 
-mul-sum-2 : tie.Need-mul-sum-2
-mul-sum-2 c = search needs
+shared-slice-read-before : tie.Need-shared-slice-read-before
+shared-slice-read-before c = search needs
 
-shared-slice-read-sum : tie.Need-shared-slice-read-sum
-shared-slice-read-sum c = search needs
+cast-t : tie.Need-cast-t
+cast-t c = let s = c .before in omega (arith, c .shared-slice-known .given (1024 + s .args .set * 8 + s .args .i))
 
-mul-sum-3 : tie.Need-mul-sum-3
-mul-sum-3 c = search needs
+mul-t : tie.Need-mul-t
+mul-t c = search needs
 
-add-sum-3 : tie.Need-add-sum-3
-add-sum-3 c = search needs
+add-t : tie.Need-add-t
+add-t c = search needs
 
-add-sum-4 : tie.Need-add-sum-4
-add-sum-4 c = search needs
+add-t-2 : tie.Need-add-t-2
+add-t-2 c = search needs
 
-mul-sum-4 : tie.Need-mul-sum-4
-mul-sum-4 c = search needs
+mul-t-2 : tie.Need-mul-t-2
+mul-t-2 c = search needs
 
-shared-slice-read-sum-2 : tie.Need-shared-slice-read-sum-2
-shared-slice-read-sum-2 c = search needs
+shared-slice-read-t : tie.Need-shared-slice-read-t
+shared-slice-read-t c = search needs
 
-sum-requires : tie.Need-sum-requires
-sum-requires c κs = search needs
+cast-t-2 : tie.Need-cast-t-2
+cast-t-2 c = let s = c .before .before in omega (arith, c .shared-slice-known2 .given (64 + s .args .i * 64 + s .args .v))
 
-lesser-requires : tie.Need-lesser-requires
-lesser-requires c κs = search needs
+add-t-3 : tie.Need-add-t-3
+add-t-3 c = let s = c .before .before in omega (arith, c .before .shared-slice-known .given (1024 + s .args .set * 8 + s .args .i), c .shared-slice-known2 .given (64 + s .args .i * 64 + s .args .v))
 
 returns : tie.Need-returns
-unfolding given
-returns c p q s e f g = let z = c .before .before .before .before .before .before .before in
-    let h : has (z .args .set) (z .args .i) ≡ true = sym (c .before .before .before .before .before .has .ensures) ∙ c .before .before .before .before .if1 .taken in
-    rw h (c .lesser .ensures (z .args .cap) s (plus p q) (z .pre .4) g (c .before .sum .ensures p q (e h) f))
+returns c = λ cap p q r k e f g.
+    let s = c .before .before .before in
+    better-sum cap p q r (getD (s .args .work .now) (1024 + s .args .set * 8 + s .args .i) 0) (getD (s .args .work .now) (64 + s .args .i * 64 + s .args .v) 0) (s .args .r) k e f g (c .if1 .taken)
 
 returns-2 : tie.Need-returns-2
-unfolding given
-returns-2 c p q s e f g = let z = c .before .before .before in
-    let h : has (z .args .set) (z .args .i) ≡ false = sym (c .before .has .ensures) ∙ c .if1 .left in
-    rw (h, lesser-none s) g
+returns-2 c = λ cap p q r k e f g.
+    let s = c .before .before .before in
+    better-kept cap p q r (getD (s .args .work .now) (1024 + s .args .set * 8 + s .args .i) 0) (getD (s .args .work .now) (64 + s .args .i * 64 + s .args .v) 0) (s .args .r) k e f g (c .if1 .left)
 
 pub better-spec : {M : Type 1} → statement M
 better-spec =
     tie.close
     (tie.spec
-    has-requires
-    mul-sum
-    add-sum
-    add-sum-2
-    mul-sum-2
-    shared-slice-read-sum
-    mul-sum-3
-    add-sum-3
-    add-sum-4
-    mul-sum-4
-    shared-slice-read-sum-2
-    sum-requires
-    lesser-requires
+    mul-before
+    add-before
+    add-before-2
+    mul-before-2
+    shared-slice-read-before
+    cast-t
+    mul-t
+    add-t
+    add-t-2
+    mul-t-2
+    shared-slice-read-t
+    cast-t-2
+    add-t-3
     returns
     returns-2)
