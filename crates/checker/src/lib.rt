@@ -28,6 +28,7 @@ pub struct Answer {
     pub yes: bool,
 }
 
+// The answer of a call that is refused.
 fn refused(number: u32) -> Answer
     ensures { λ r. ⌜ r ≡ answerOf (refuse number) ⌝ }
 {
@@ -37,6 +38,7 @@ fn refused(number: u32) -> Answer
     }
 }
 
+// The answer of a call that finished.
 fn judged(yes: bool) -> Answer
     ensures { λ r. ⌜ r ≡ answerOf (got yes []) ⌝ }
 {

@@ -19,7 +19,7 @@ refused-requires c κs = search needs
 returns : tie.Need-returns
 returns c =
     let s = c .before .before .before .before .before .before .before in
-    let S = (sheetOf (s .args .header) (s .args .arcs .now) (s .args .marks .now)) in
+    let S = sheetOf (s .args .header) (s .args .arcs .now) (s .args .marks .now) in
     (c .refused .ensures ∙ answer-formed S _ (many-goals S (s .args .form .first) (valuesAt (s .args .slip .now) (s .args .form .goals) (s .args .form .«goals_at»)) (valuesAt (s .args .slip .now) (s .args .form .reasons) (s .args .form .«reasons_at»)) (omega (arith, s .pre .2 .0, c .before .if1 .taken))), refl)
 
 cast-if2 : tie.Need-cast-if2
@@ -34,7 +34,7 @@ refused-requires-2 c κs = search needs
 returns-2 : tie.Need-returns-2
 returns-2 c =
     let s = c .before .before .before .before .before .before .before .before .before .before in
-    let S = (sheetOf (s .args .header) (s .args .arcs .now) (s .args .marks .now)) in
+    let S = sheetOf (s .args .header) (s .args .arcs .now) (s .args .marks .now) in
     (c .refused2 .ensures ∙ answer-formed S _ (many-reasons S (s .args .form .first) (valuesAt (s .args .slip .now) (s .args .form .goals) (s .args .form .«goals_at»)) (valuesAt (s .args .slip .now) (s .args .form .reasons) (s .args .form .«reasons_at»)) (omega (arith, s .pre .2 .1, items-are (s .pre .0), c .before .if2 .taken))), refl)
 
 judge-lists-requires : tie.Need-judge-lists-requires
