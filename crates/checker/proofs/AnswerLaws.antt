@@ -1,49 +1,18 @@
--- From what the code finds to check's answer. Assumes nothing.
-use Prim.Native.Nat.{ℕ, _≤_}
-use mathlib.Core.Path.{_≡_, ap, ap₂, _∙_, fun-ext}
+-- From what the code finds to the answer on a slip that is well written. Assumes nothing.
+use Prim.Native.Nat.{ℕ}
+use mathlib.Core.Path.{_≡_, ap₂, _∙_}
 use mathlib.Core.Bool.{Bool, true, false, not, _&&_}
 use mathlib.Core.List.{List, []}
-use native.Mathlib.Omega.{arith}
-use lib.ListN.{getD}
-use lib.Dec.{eqb, leb}
 use Rattle.lists.specs.Lists.{member, every}
 use Rattle.varint.specs.Varint.{got, refuse}
-use Rattle.walks.specs.Lengths.{within}
-use Rattle.walks.specs.Graph.{closedIn, least, fits}
-use Rattle.walks.specs.Flat.{graphOf}
-use Rattle.rows.specs.Held.{held, code, atMost}
-use Rattle.sections.specs.declared.Header.{Header}
-use Rattle.sheet.specs.Sheet.{Sheet, isOpen, isMandatory, isForbidden, markOf, required}
+use Rattle.walks.specs.Graph.{fits}
+use Rattle.sheet.specs.Sheet.{Sheet, isForbidden}
 use Rattle.sheet.specs.Slip.{Slip}
-use Rattle.judge.proofs.FitLaws.{held-within}
-use Rattle.verify.specs.Check.{wellFormed, isGoal, holds, judgedOn}
 use Rattle.slip.specs.Form.{slipFrom}
+use Rattle.claim.proofs.FormLaws.{and-assoc}
+use Rattle.verify.specs.Check.{wellFormed, isGoal, holds, judgedOn}
 use Rattle.checker.specs.declared.Answer.{Answer}
-use Rattle.checker.specs.Answer.{answerOf, Closing}
-
--- the least length clear of the closing marks says whether a walk clear of the reasons fits
-pub goals-fit : (h : Header) (arcs marks goals reasons : List ℕ) (x : ℕ) → h .limit ≤ 1000000 → Closing reasons marks
-    → x ≡ code (atMost (h .limit) (least (graphOf (h .nodes) arcs) (closedIn marks) goals (h .source) (h .target)))
-    → leb x (h .limit) ≡ fits (graphOf (h .nodes) arcs) (h .source) (h .target) (h .limit) (λ j. member j reasons) goals
-unfolding fits held
-goals-fit h arcs marks goals reasons x l c e =
-    let G = graphOf (h .nodes) arcs in
-    ap (λ (y : ℕ). leb y (h .limit)) e ∙ held-within (h .limit) (least G (closedIn marks) goals (h .source) (h .target)) (omega arith)
-    ∙ ap (λ (closed : ℕ → Bool). within (least G closed goals (h .source) (h .target)) (h .limit)) (fun-ext (c .each))
-
--- the goals' tests by the first number
-module _ (S : Sheet) (v : ℕ) (goals : List ℕ) where
-  pub goals-two : eqb v 2 ≡ true → every (λ x. eqb (getD (S .marks) x 0) 1) goals ≡ every (isGoal S v) goals
-  unfolding isGoal isMandatory markOf
-  goals-two e = ap (λ (f : ℕ → Bool). every f goals) (fun-ext (λ g. rw e))
-
-  pub goals-three : eqb v 2 ≡ false → eqb v 3 ≡ true → every (λ x. member x (required S)) goals ≡ every (isGoal S v) goals
-  unfolding isGoal
-  goals-three e f = ap (λ (h : ℕ → Bool). every h goals) (fun-ext (λ g. rw (e, f)))
-
-  pub goals-four : eqb v 2 ≡ false → eqb v 3 ≡ false → every (λ x. eqb (getD (S .marks) x 0) 0) goals ≡ every (isGoal S v) goals
-  unfolding isGoal isOpen markOf
-  goals-four e f = ap (λ (h : ℕ → Bool). every h goals) (fun-ext (λ g. rw (e, f)))
+use Rattle.checker.specs.Answer.{answerOf}
 
 module _ (S : Sheet) (s : Slip) where
   -- 18 where the slip is not well formed
@@ -51,12 +20,12 @@ module _ (S : Sheet) (s : Slip) where
   unfolding judgedOn
   answer-formed e = rw e
 
-  -- yes where every reason is forbidden, the goals are of their kind and no walk fits; no otherwise
-  pub answer-judged : (a b f answer : Bool) → wellFormed S s ≡ true → a ≡ every (isForbidden S) (s .reasons) → b ≡ every (isGoal S (s .first)) (s .goals)
-      → f ≡ fits (S .graph) (S .source) (S .target) (S .limit) (λ j. member j (s .reasons)) (s .goals) → answer ≡ (a && (b && not f))
+  -- yes where the reasons and the goals are of their kinds and no walk fits; no otherwise
+  pub answer-judged : (k f answer : Bool) → wellFormed S s ≡ true → k ≡ (every (isForbidden S) (s .reasons) && every (isGoal S (s .first)) (s .goals))
+      → f ≡ fits (S .graph) (S .source) (S .target) (S .limit) (λ j. member j (s .reasons)) (s .goals) → answer ≡ (k && not f)
       → answerOf (got answer []) ≡ answerOf (judgedOn S s [])
   unfolding judgedOn holds
-  answer-judged a b f answer w p q r e = rw (w, ← p, ← q, ← r, e)
+  answer-judged k f answer w p q e = rw (w, ← q, e, p, and-assoc)
 
 -- the answer speaks of the lists as the slip has them
 pub of-lists : (S : Sheet) (v : ℕ) {xs ys goals reasons : List ℕ} {a : Answer} → xs ≡ goals → ys ≡ reasons → a ≡ answerOf (judgedOn S (slipFrom v xs ys) [])

@@ -12,14 +12,14 @@ use Rattle.sheet.specs.Sheet.{Sheet}
 use Rattle.sheet.specs.Slip.{Slip, readSlip, slipGoals, as17}
 use Rattle.sheet.specs.Reader.{taken}
 use Rattle.sheet.specs.Lent.{workNumbers, zeros, zeroed, workAfter}
-use Rattle.slip.specs.Form.{slipFrom, valuesAt, slipOf}
+use Rattle.slip.specs.Form.{slipOf}
 use Rattle.slip.specs.declared.SlipForm.{SlipForm}
 use Rattle.slip.specs.declared.SlipRead.{SlipRead}
 use Rattle.slip.specs.declared.SlipRead.the-variants.{Formed, Unformed}
 use Rattle.verdict.proofs.AcceptedLaws.{accepted-taken}
 use Rattle.verify.specs.Check.{wellFormed, holds, judgedOn, checkOn, Outcome, outcome, checked}
 use Rattle.checker.specs.declared.Answer.{Answer}
-use Rattle.checker.specs.Answer.{answerOf}
+use Rattle.checker.specs.Answer.{answerOf, formOf}
 use Rattle.checker.proofs.RefusalLaws.{refused-low}
 
 -- the answer on a slip, from how it is written
@@ -28,7 +28,7 @@ module _ (S : Sheet) (slip : List ℕ) (r : SlipRead) (e : slipOf slip r ≡ rea
   read-as p = ap (λ (x : Read Slip). answerOf (after x (judgedOn S))) (ap (slipOf slip) (sym p) ∙ e)
 
   pub answer-form : {f : SlipForm} {a : Answer} → r ≡ Formed f
-      → a ≡ answerOf (judgedOn S (slipFrom (f .first) (valuesAt slip (f .goals) (f .«goals_at»)) (valuesAt slip (f .reasons) (f .«reasons_at»))) [])
+      → a ≡ answerOf (judgedOn S (formOf slip f) [])
       → a ≡ answerOf (after (readSlip slip) (judgedOn S))
   unfolding after
   answer-form p z = z ∙ read-as p

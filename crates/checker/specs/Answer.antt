@@ -1,15 +1,11 @@
--- What check's answer stands for in document 01, and what the code has ready when it asks for a least length.
-use Prim.Native.Nat.{ℕ, _≤_, _<_}
-use mathlib.Core.Path.{_≡_}
-use mathlib.Core.Bool.{Bool, true, false}
+-- What check's answer stands for in document 01.
+use Prim.Native.Nat.{ℕ}
+use mathlib.Core.Bool.{Bool, false}
 use mathlib.Core.List.{List}
-use lib.ListN.{length}
-use Rattle.lists.specs.Lists.{member}
 use Rattle.varint.specs.Varint.{Read, got, refuse}
-use Rattle.walks.specs.Graph.{closedIn}
-use Rattle.rows.specs.Net.{netOf, Proper}
-use Rattle.lengths.specs.Table.{GoalsFit}
-use Rattle.sections.specs.declared.Header.{Header}
+use Rattle.sheet.specs.Slip.{Slip}
+use Rattle.slip.specs.Form.{slipFrom, valuesAt}
+use Rattle.slip.specs.declared.SlipForm.{SlipForm}
 use Rattle.checker.specs.declared.Answer.{Answer}
 
 -- yes or no where check finished, or the refusal
@@ -17,16 +13,6 @@ unfoldable pub answerOf : Read Bool → Answer
 answerOf (got answer rest) = record { number = 0; yes = answer }
 answerOf (refuse e) = record { number = e; yes = false }
 
--- marks of 576 items that close the listed ones and no other
-pub record Closing (reasons marks : List ℕ) : Type 0 where
-  pub size : length marks ≡ 576
-  pub each : (j : ℕ) → closedIn marks j ≡ member j reasons
-
--- a graph with source, target and limit, goals, and reasons, for which a least length can be asked
-pub record Asked (h : Header) (arcs goals reasons : List ℕ) : Type 0 where
-  pub proper : (marks : List ℕ) → length marks ≡ 576 → Proper (netOf (h .nodes) arcs marks)
-  pub few : length arcs ≤ 1536
-  pub ends : (h .source < h .nodes) × (h .target < h .nodes)
-  pub limit : h .limit ≤ 1000000
-  pub sought : (marks : List ℕ) → GoalsFit (netOf (h .nodes) arcs marks) goals
-  pub items : (j : ℕ) → member j reasons ≡ true → j < 576
+-- a slip that is well written: its first number, its goals and its reasons
+abbrev pub formOf : List ℕ → SlipForm → Slip
+formOf slip f = slipFrom (f .first) (valuesAt slip (f .goals) (f .«goals_at»)) (valuesAt slip (f .reasons) (f .«reasons_at»))

@@ -98,8 +98,8 @@ judge-requires c κs =
     let l = loaded (s .args .sheet .now) _ _ (q .last .1 .0) (q .last .1 .1 .0) (h .0 .0) (sym (h .1) ∙ q .ensures .0) (q .ensures .1 .0) (q .ensures .1 .1) in
     (l .whole, c .before .before .before .before .before .before .before .before .before .before .before .before .before .if1 .left)
 
-zero-requires : tie.Need-zero-requires
-zero-requires c κs = search needs
+ended-requires : tie.Need-ended-requires
+ended-requires c κs = search needs
 
 same-length : tie.Need-same-length
 same-length c = search needs
@@ -111,8 +111,8 @@ returns-3 c =
     let h = c .before .before .before .before .before .before .before .before .before .before .before .before .before .header .given in
     let l = loaded (s .args .sheet .now) _ _ (q .last .1 .0) (q .last .1 .1 .0) (h .0 .0) (sym (h .1) ∙ q .ensures .0) (q .ensures .1 .0) (q .ensures .1 .1) in
     let j = c .before .before .before .before .before .before .judge in
-    let z = c .before .before .zero in
-    checked-slip (s .args .sheet .now) (s .args .work .now) (s .args .slip .now) (j .result) (l .read) (j .last .1 .1 .1 .1 .0) (z .last .0) (j .ensures .0 ∙ ap (λ (S : Sheet). answerOf (after (readSlip (s .args .slip .now)) (judgedOn S))) (l .same)) (c .before .before .before .before .before .before .before .before .before .before .before .before .before .before .before .before .before .before .before .before .if1 .left) (l .took) (j .ensures .1) (z .ensures)
+    let z = c .before .before .ended in
+    checked-slip (s .args .sheet .now) (s .args .work .now) (s .args .slip .now) (z .result) (l .read) (j .last .1 .1 .1 .1 .0) (z .last .1 .0) (z .ensures .0 ∙ j .ensures .0 ∙ ap (λ (S : Sheet). answerOf (after (readSlip (s .args .slip .now)) (judgedOn S))) (l .same)) (c .before .before .before .before .before .before .before .before .before .before .before .before .before .before .before .before .before .before .before .before .if1 .left) (l .took) (j .ensures .1) (z .ensures .1)
 
 pub check-spec : {M : Type 1} → statement M
 check-spec =
@@ -134,6 +134,6 @@ check-spec =
     array-share-prefix-marks
     slice-aggregate-judge-2
     judge-requires
-    zero-requires
+    ended-requires
     same-length
     returns-3)
