@@ -1,4 +1,4 @@
--- `reopen::entering` meets its contract: the arcs join nodes below 64. Assumes nothing.
+-- `reopen::entering` meets its contract: any set of nodes does; the arcs join nodes below 64, so that each has its bit. Assumes nothing.
 use Prim.Native.Nat.{ℕ, _+_, _*_, _-_, _/_, _≤_, _<_}
 use mathlib.Core.Path.{_≡_, refl, sym, ap, _∙_, subst}
 use mathlib.Core.List.{List}

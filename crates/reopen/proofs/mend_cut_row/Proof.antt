@@ -1,4 +1,4 @@
--- `reopen::mend_cut_row` meets its contract. Assumes nothing.
+-- `reopen::mend_cut_row` meets its contract: a row that the opened arc can cut is sound for the new marks and is mended, and else it holds the least lengths as it is. Assumes nothing.
 use Prim.Native.Nat.{ℕ, _+_, _*_, _-_, _/_, _≤_, _<_}
 use mathlib.Core.Path.{_≡_, refl, sym, ap, _∙_, subst}
 use mathlib.Core.List.{List}

@@ -1,4 +1,4 @@
--- `reopen::open_arc` meets its contract. Assumes nothing.
+-- `reopen::open_arc` meets its contract: the rows are kept behind before they are mended, and mending leaves what lies behind them. Assumes nothing.
 use native.Mathlib.Omega.{arith}
 use borrow.Author.Needs.{needs}
 use Rattle.rows.specs.Net.{netOf}
