@@ -51,7 +51,7 @@ idle-requires c κs =
       omega (arith, L .tail, p .few),
       omega (arith, L .head, p .few),
       omega (arith, L .head, p .marked),
-      s .pre .1 .1 .room,
+      omega (arith, s .pre .1 .1 .room),
       s .pre .1 .2,
     )
 
