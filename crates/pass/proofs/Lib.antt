@@ -1,3 +1,4 @@
 pub mod SlipLaws
+pub mod OutcomeLaws
 pub mod PassLaws
 pub mod AnswerLaws

@@ -119,14 +119,15 @@ fn sweep_down(arcs: &[u32], row: &mut [u32], cap: u32) -> bool
     changed
 }
 
-// Tries each arc once upwards and, where that changed anything, once downwards, so that a chain of arcs in either order takes one turn.
+// Tries each arc once downwards and, where that changed anything, once upwards, so that a chain of arcs in either order takes one turn.
+// Downwards first, since an arc that was opened is put behind the others.
 fn sweep(arcs: &[u32], row: &mut [u32], cap: u32) -> bool
     requires { ⌜ Joins 64 (now arcs) × (length (now row) ≡ 64) ⌝ }
     ensures { λ _. ⌜ Keeps cap (now (arcs .entry)) (now (row .entry)) (now (row .exit)) ⌝ }
     ensures { λ r. ⌜ Round cap (now (arcs .entry)) (now (row .entry)) (now (row .exit)) r ⌝ }
 {
-    if sweep_up(arcs, row, cap) {
-        return sweep_down(arcs, row, cap);
+    if sweep_down(arcs, row, cap) {
+        return sweep_up(arcs, row, cap);
     }
     false
 }

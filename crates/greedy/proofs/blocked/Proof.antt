@@ -22,6 +22,7 @@ open-item-requires c κs =
         s .pre .0 .small,
         omega (arith, s .pre .0 .counted, s .pre .0 .eight),
         s .pre .1 .0 .2,
+        s .pre .1 .0 .5,
       ),
     )
 

@@ -47,6 +47,7 @@ blocked-requires c κs =
           s .pre .1 .long,
           t .ensures .1 (s .args .marks .now) refl (s .pre .1 .arcs),
           entries-below (s .pre .0 .0) (s .pre .1) (s .args .t .item),
+          omega (arith, t .ensures .0, s .pre .1 .wide, t .kept .1 .1 .1 .0, length-take-le (t .result * 3) (t .last .1 .1 .1 .0) (omega (arith, t .ensures .0, t .kept .1 .1 .1 .0))),
         ),
         c .before .before .before .is-goal .ensures,
       ),

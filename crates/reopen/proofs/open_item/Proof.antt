@@ -28,7 +28,7 @@ open-arc-requires c κs =
     let p = s .pre .0 .0 in
     let tail = p .tails (s .args .o .item - s .args .o .nodes) l in
     let head = p .heads (s .args .o .item - s .args .o .nodes) l in
-    (s .pre .1, (omega (arith, L .tail, p .few), omega (arith, L .head, p .few)))
+    ((s .pre .1 .0, s .pre .1 .1, s .pre .1 .2, s .pre .1 .3, s .pre .1 .4), (omega (arith, L .tail, p .few), omega (arith, L .head, p .few), s .pre .1 .5))
 
 same-length-2 : tie.Need-same-length-2
 same-length-2 c = search needs
@@ -73,7 +73,7 @@ open-arc-requires-2 c κs =
     let p = s .pre .0 .0 in
     let tail = p .tails (s .args .o .item - s .args .o .nodes) l in
     let head = p .heads (s .args .o .item - s .args .o .nodes) l in
-    (s .pre .1, (omega (arith, L .tail, p .few), omega (arith, L .head, p .few)))
+    ((s .pre .1 .0, s .pre .1 .1, s .pre .1 .2, s .pre .1 .3, s .pre .1 .4), (omega (arith, L .tail, p .few), omega (arith, L .head, p .few), s .pre .1 .5))
 
 same-length-4 : tie.Need-same-length-4
 same-length-4 c = search needs

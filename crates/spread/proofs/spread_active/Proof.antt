@@ -1,20 +1,17 @@
--- `spread::spread_from` meets its contract. The loop's invariant: a good row is good still; it takes at most 64 turns. Assumes nothing.
+-- `spread::spread_active` meets its contract. The loop's invariant: a good row is good still; it takes at most 64 turns. Assumes nothing.
 use Prim.Native.Nat.{_-_}
 use mathlib.Core.Path.{_≡_, refl, _∙_}
 use native.Mathlib.Omega.{arith}
 use lib.ListN.{length}
 use Rattle.rows.specs.Rows.{Keeps}
-use Rattle.spread.proofs.spread_from.Statement.{statement}
-use Rattle.spread.proofs.spread_from.Tie as tie
+use Rattle.spread.proofs.spread_active.Statement.{statement}
+use Rattle.spread.proofs.spread_active.Tie as tie
 
 abbrev Inv-loop : tie.InvT-loop
-Inv-loop arcs chains row₀ from cap left₀ turn₀ row left turn = (length row ≡ length row₀) × Keeps cap arcs row₀ row
+Inv-loop arcs chains row₀ active cap left₀ turn₀ row left turn = (length row ≡ length row₀) × Keeps cap arcs row₀ row
 
 abbrev μ-loop : tie.MeasureT-loop
-μ-loop arcs chains row₀ from cap left₀ turn₀ row left turn = 64 - turn
-
-shl-left : tie.Need-shl-left Inv-loop μ-loop
-shl-left c = omega arith
+μ-loop arcs chains row₀ active cap left₀ turn₀ row left turn = 64 - turn
 
 loop-holds : tie.Need-loop-holds Inv-loop μ-loop
 loop-holds c = (refl, λ N a p P g. g)
@@ -46,13 +43,12 @@ same-length-2 c = c .before .loop .inv .0
 returns-2 : tie.Need-returns-2 Inv-loop μ-loop
 returns-2 c = c .before .loop .inv .1
 
-pub spread-from-spec : {M : Type 1} → statement M
-spread-from-spec =
+pub spread-active-spec : {M : Type 1} → statement M
+spread-active-spec =
     tie.close
     (tie.spec
     Inv-loop
     μ-loop
-    shl-left
     loop-holds
     same-length
     returns
