@@ -1,37 +1,25 @@
 -- From an operation over numbers to the same over bytes. An answer does not depend on what the work numbers hold, only on how many there are; so the call's one
 -- number and its slip are those of the operation for any work of 16,384 numbers, and the bytes are left by the same rule as the numbers. Assumes nothing.
 use Prim.Native.Nat.{ℕ, _+_, _*_, _≤_, _<_}
-use mathlib.Core.Path.{_≡_, refl, sym, ap, _∙_}
+use mathlib.Core.Path.{_≡_, refl, ap, _∙_}
 use mathlib.Core.Bool.{Bool, true, false}
 use mathlib.Core.List.{List}
 use native.Mathlib.Omega.{arith}
 use lib.ListN.{length}
 use lib.Dec.{ltb}
-use borrow.Author.Tests.{lt-ltb, le-ltb, ne-eqb}
+use borrow.Author.Tests.{lt-ltb, le-ltb}
 use Rattle.lists.specs.Lists.{pick, front}
-use Rattle.sheet.proofs.RefusalLaws.{taken-refuses}
-use Rattle.sheet.specs.Sheet.{Sheet}
-use Rattle.varint.specs.Varint.{Read, got, refuse, after}
-use Rattle.verdict.proofs.AcceptedLaws.{accepted-taken, accepted-got, accepted-good}
-use Rattle.verdict.proofs.SlipOfPass.{pass-slip-size}
-use Rattle.verdict.specs.Accepted.{accepted}
 use Rattle.verdict.specs.Pass as pass
-use Rattle.verdict.specs.Pass.{Answer, finished, refused, answerOf, passOn}
-use Rattle.verdict.specs.Verdict.{verdict, passSlip}
+use Rattle.verdict.specs.Pass.{Answer, finished, refused}
 use Rattle.planner.specs.Lent.{zeroedBytes, bytesAfter}
 use Rattle.planner.specs.Left.{leftBytes}
 use Rattle.planner.specs.Layer.{Outcome, outcome, lentEnough}
-use Rattle.planner.proofs.LeftLaws.{left-finished}
+use Rattle.planner.proofs.LeftLaws.{left-finished, left-refused}
 
 -- a slip of at most 1,200 bytes, or one of the refusals 1 to 16
 abbrev pub Within : Answer → Type 0
 Within (finished bytes) = length bytes ≤ 1200
 Within (refused e) = (1 ≤ e) × (e ≤ 16)
-
--- a refusal's work is that of its number
-left-refused : (e : ℕ) (work : List ℕ) → 1 ≤ e → leftBytes e work ≡ bytesAfter e work
-unfolding leftBytes
-left-refused e work h = rw (ne-eqb e 0 (λ z. absurd (omega arith)))
 
 -- 1: too few bytes of work
 pub short-bytes : (a : Answer) (work slip : List ℕ) → length work < 65536 → record { number = 65536; work = work; slip = slip } ≡ outcome (lentEnough work slip a) work slip
@@ -43,11 +31,11 @@ abbrev pub told : pass.Outcome → List ℕ → Outcome
 told o work = record { number = 65536 * o .number + o .length; work = leftBytes (o .number) work; slip = o .slip }
 
 module _ (numbers work slip : List ℕ) (g : 16384 ≤ length numbers) (h : 65536 ≤ length work) (a : Answer) (w : Within a) where
-  enough : pass.lentEnough numbers slip a ≡ lentEnough work slip a
+  pub enough : pass.lentEnough numbers slip a ≡ lentEnough work slip a
   unfolding pass.lentEnough lentEnough
   enough = rw (le-ltb (length numbers) 16384 g, le-ltb (length work) 65536 h)
 
-  enough-within : Within (lentEnough work slip a)
+  pub enough-within : Within (lentEnough work slip a)
   unfolding lentEnough
   enough-within = rw (le-ltb (length work) 65536 h) (go (ltb (length slip) 1200))
     where
@@ -75,15 +63,3 @@ module _ (numbers work slip : List ℕ) (g : 16384 ≤ length numbers) (h : 6553
       go : (b : Answer) → Within b → (pass.outcome b numbers slip .number ≤ 18) × (pass.outcome b numbers slip .length ≤ 1200)
       go (finished bytes) l = (omega arith, l)
       go (refused e) l = (omega (arith, l .1), omega arith)
-
--- what a sheet draws is one of 3 to 13
-pub accepted-refuses : (sheet : List ℕ) (e : ℕ) → accepted sheet ≡ refuse e → (3 ≤ e) × (e ≤ 13)
-accepted-refuses sheet e r = taken-refuses sheet e (sym (accepted-taken sheet) ∙ r)
-
-pub pass-within : (sheet : List ℕ) → Within (passOn sheet)
-unfolding passOn answerOf after
-pass-within sheet = go (accepted sheet) refl
-  where
-    go : (r : Read Sheet) → accepted sheet ≡ r → Within (answerOf (after r (λ S rest. got (passSlip S (verdict S)) rest)))
-    go (got S rest) e = pass-slip-size S (accepted-good sheet S rest e) (accepted-got sheet S rest e .0 .few) .0
-    go (refuse v) e = let b = accepted-refuses sheet v e in (omega (arith, b .0), omega (arith, b .1))

@@ -32,3 +32,8 @@ module _ (number : ℕ) (work : List ℕ) (n : number ≡ 0 → ⊥) where
   pub left-early : number ≤ 13 → leftBytes number work ≡ work
   unfolding leftBytes bytesAfter
   left-early h = rw (ne-eqb number 0 n, le-leb number 13 h)
+
+-- a refusal leaves what its number says
+pub left-refused : (e : ℕ) (work : List ℕ) → 1 ≤ e → leftBytes e work ≡ bytesAfter e work
+unfolding leftBytes
+left-refused e work h = rw (ne-eqb e 0 (λ z. absurd (omega arith)))

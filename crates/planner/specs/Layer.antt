@@ -5,6 +5,7 @@ use lib.ListN.{length}
 use lib.Dec.{ltb}
 use Rattle.lists.specs.Lists.{pick, front}
 use Rattle.verdict.specs.Pass.{Answer, finished, refused, passOn}
+use Rattle.reason.specs.Reason.{reasonOn}
 use Rattle.planner.specs.Lent.{workBytes, zeroedBytes, bytesAfter}
 
 -- What a call gives and leaves: its one number, 65,536 times the refusal plus the slip's length, and what work and slip hold.
@@ -25,3 +26,7 @@ lentEnough work slip a = pick (ltb (length work) workBytes) (refused 1) (pick (l
 -- ways_pass, for every sheet, work and slip
 unfoldable pub passedBytes : List ℕ → List ℕ → List ℕ → Outcome
 passedBytes sheet work slip = outcome (lentEnough work slip (passOn sheet)) work slip
+
+-- ways_reason, for every sheet, work, slip and item number
+unfoldable pub reasonedBytes : List ℕ → List ℕ → List ℕ → ℕ → Outcome
+reasonedBytes sheet work slip i = outcome (lentEnough work slip (reasonOn sheet i)) work slip

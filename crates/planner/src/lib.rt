@@ -6,7 +6,8 @@ ghost use mathlib.Core.Path.{_≡_};
 ghost use Prim.Native.Nat.{_+_, _*_, _≤_};
 ghost use lib.ListN.{length};
 ghost use Rattle.planner.specs.Lent.{workBytes, zeroedBytes};
-ghost use Rattle.planner.specs.Layer.{passedBytes};
+ghost use Rattle.planner.specs.Layer.{passedBytes, reasonedBytes};
+ghost use Rattle.planner.specs.Check.{yesNumber, checkedBytes};
 ghost use Rattle.planner.specs.Left.{leftBytes};
 
 const WORK_BYTES: usize = 65536;
@@ -51,6 +52,13 @@ fn one_number(number: u32, length: usize) -> u32
     REFUSAL * number + length as u32
 }
 
+// What yes adds to the one number of a check.
+fn yes_number(yes: bool) -> usize
+    ensures { λ r. ⌜ r ≡ yesNumber yes ⌝ }
+{
+    if yes { 1 } else { 0 }
+}
+
 // Pass for a program in C.
 #[no_mangle]
 pub extern "C" fn ways_pass(sheet: &[u8], work: &mut [u8], slip: &mut [u8]) -> u32
@@ -63,4 +71,32 @@ pub extern "C" fn ways_pass(sheet: &[u8], work: &mut [u8], slip: &mut [u8]) -> u
     let answer = pass::pass(sheet, &mut numbers, slip);
     leave(work, answer.number);
     one_number(answer.number, answer.length)
+}
+
+// Reason for a program in C.
+#[no_mangle]
+pub extern "C" fn ways_reason(sheet: &[u8], work: &mut [u8], slip: &mut [u8], item: u32) -> u32
+    ensures { λ r. ⌜ record { number = r; work = now (work .exit); slip = now (slip .exit) } ≡ reasonedBytes (now (sheet .entry)) (now (work .entry)) (now (slip .entry)) item ⌝ }
+{
+    if work.len() < WORK_BYTES {
+        return REFUSAL;
+    }
+    let mut numbers = [0u32; pass::WORK_NUMBERS];
+    let answer = reason::reason(sheet, &mut numbers, slip, item);
+    leave(work, answer.number);
+    one_number(answer.number, answer.length)
+}
+
+// Check for a program in C.
+#[no_mangle]
+pub extern "C" fn ways_check(sheet: &[u8], work: &mut [u8], slip: &[u8]) -> u32
+    ensures { λ r. ⌜ record { number = r; work = now (work .exit) } ≡ checkedBytes (now (sheet .entry)) (now (work .entry)) (now (slip .entry)) ⌝ }
+{
+    if work.len() < WORK_BYTES {
+        return REFUSAL;
+    }
+    let mut numbers = [0u32; pass::WORK_NUMBERS];
+    let answer = checker::check(sheet, &mut numbers, slip);
+    leave(work, answer.number);
+    one_number(answer.number, yes_number(answer.yes))
 }

@@ -2,7 +2,8 @@
 use borrow.Author.Needs.{needs}
 use Rattle.verdict.specs.Pass.{passOn, passed}
 use Rattle.planner.specs.Layer.{passedBytes}
-use Rattle.planner.proofs.LayerLaws.{short-bytes, in-bytes, small, pass-within}
+use Rattle.planner.proofs.LayerLaws.{short-bytes, in-bytes, small}
+use Rattle.planner.proofs.WithinLaws.{pass-within}
 use Rattle.planner.proofs.ways_pass.Statement.{statement}
 use Rattle.planner.proofs.ways_pass.Tie as tie
 
