@@ -30,9 +30,13 @@ pub const KINDS: [Kind; 8] =
 /// A sheet that keeps to every rule of document 01, but that more than eight nodes may be required once in a while.
 pub fn draw(kind: Kind, random: &mut Random) -> Sheet {
     let (nodes, arc_count) = size(kind, random);
-    let arcs = arcs(kind, nodes, arc_count, random);
     let source = random.below(nodes);
     let target = (source + random.between(1, nodes - 1)) % nodes;
+    let weights = most_minutes(kind, random);
+    let arcs: Vec<[u32; 3]> = ends(kind, nodes, (source, target), arc_count, random)
+        .into_iter()
+        .map(|(tail, head)| [tail as u32, head as u32, random.between(0, weights) as u32])
+        .collect();
     let limit = limit(kind, random);
     let mut sheet = Sheet::new(nodes as u32, source as u32, target as u32, limit, &arcs);
     forbid(kind, &mut sheet, random);
@@ -42,7 +46,7 @@ pub fn draw(kind: Kind, random: &mut Random) -> Sheet {
 
 fn size(kind: Kind, random: &mut Random) -> (usize, usize) {
     match kind {
-        Kind::Tiny => (random.between(2, 5), random.between(0, 9)),
+        Kind::Tiny => (random.between(2, 6), random.between(0, 16)),
         Kind::Small | Kind::Zero => (random.between(3, 16), random.between(4, 60)),
         Kind::Full => (64, 512),
         Kind::Parallel => (random.between(2, 6), random.between(20, 512)),
@@ -52,18 +56,34 @@ fn size(kind: Kind, random: &mut Random) -> (usize, usize) {
     }
 }
 
-fn arcs(kind: Kind, nodes: usize, count: usize, random: &mut Random) -> Vec<[u32; 3]> {
-    let most = most_minutes(kind, random);
-    // a step to the next node by number makes long ways, a step to any node short ones
-    let local = if kind == Kind::Long { 9 } else { random.below(10) };
-    (0..count)
-        .map(|_| {
-            let tail = random.below(nodes);
-            let step = if random.chance(local, 10) { 1 } else { random.between(1, nodes - 1) };
-            let head = (tail + step) % nodes;
-            [tail as u32, head as u32, random.between(0, most) as u32]
-        })
-        .collect()
+/// How the arcs of a sheet lie.
+#[derive(Clone, Copy)]
+enum Shape {
+    /// anywhere
+    Free,
+    /// mostly from a node to the next by number: long ways
+    Ring,
+    /// mostly out of the source or into the target: each node is near, and all of them together are not
+    Fan,
+}
+
+/// Tail and head of each arc.
+fn ends(kind: Kind, nodes: usize, (source, target): (usize, usize), count: usize, random: &mut Random) -> Vec<(usize, usize)> {
+    let shape = if kind == Kind::Long { Shape::Ring } else { random.pick(&[Shape::Free, Shape::Ring, Shape::Fan, Shape::Fan]) };
+    let ordered = random.between(5, 10);
+    let mut ends = vec![];
+    while ends.len() < count {
+        let (tail, head) = (random.below(nodes), random.below(nodes));
+        let (tail, head) = match shape {
+            Shape::Ring if random.chance(ordered, 10) => (tail, (tail + 1) % nodes),
+            Shape::Fan if random.chance(ordered, 10) => random.pick(&[(source, head), (tail, target)]),
+            _ => (tail, head),
+        };
+        if tail != head {
+            ends.push((tail, head));
+        }
+    }
+    ends
 }
 
 fn most_minutes(kind: Kind, random: &mut Random) -> usize {
@@ -85,8 +105,8 @@ fn limit(kind: Kind, random: &mut Random) -> u32 {
 
 fn forbid(kind: Kind, sheet: &mut Sheet, random: &mut Random) {
     let (of_nodes, of_arcs) = match kind {
-        Kind::Closed => (random.pick(&[0, 50, 90, 100]), random.pick(&[50, 90, 97, 100])),
-        _ => (random.pick(&[0, 0, 3, 10, 30]), random.pick(&[0, 5, 20, 50])),
+        Kind::Closed => (random.pick(&[0, 0, 0, 50, 100]), random.pick(&[40, 60, 80, 95, 100])),
+        _ => (random.pick(&[0, 0, 0, 3, 20]), random.pick(&[0, 5, 20, 50])),
     };
     for item in 0..sheet.marks.len() {
         let percent = if item < sheet.nodes as usize { of_nodes } else { of_arcs };
@@ -101,7 +121,7 @@ fn demand(kind: Kind, sheet: &mut Sheet, random: &mut Random) {
     let (nodes, arcs) = match kind {
         Kind::Required => random.pick(&[(8, 0), (8, 0), (6, 1), (4, 2), (0, 4), (9, 0)]),
         Kind::Full => random.pick(&[(0, 0), (1, 0), (8, 0), (4, 2), (2, 1)]),
-        _ => random.pick(&[(0, 0), (1, 0), (2, 0), (3, 0), (0, 1), (1, 1), (2, 2)]),
+        _ => random.pick(&[(0, 0), (1, 0), (2, 0), (4, 0), (5, 0), (0, 1), (1, 1), (2, 2)]),
     };
     let count = sheet.nodes as usize;
     for _ in 0..nodes {
