@@ -94,3 +94,13 @@ fn input_in_pieces() {
     }
     assert_eq!(printed(&program, &[&bytes[..3], &bytes[3..9], &bytes[9..], &[0]]), "refused 12\n");
 }
+
+#[test]
+fn the_samples() {
+    let Some(program) = program() else { return };
+    let files = std::fs::read_dir(concat!(env!("CARGO_MANIFEST_DIR"), "/../../samples")).expect("the folder of samples");
+    let sheets = files.map(|file| file.expect("a file").path()).filter(|path| path.extension().is_some_and(|x| x == "sheet"));
+    for path in sheets {
+        try_input(&program, &std::fs::read(path).expect("a sheet"));
+    }
+}
