@@ -22,7 +22,7 @@
  * walk does once it is open too.
  *
  * Every function takes any bytes and any lengths, always returns, and reads and writes nothing outside what it is lent. A pointer must be good for as many bytes
- * as its length says, and the lent parts must not overlap. Nothing is kept between calls, so calls with different buffers may run at the same time.
+ * as its length says, and not null even where that is 0; the lent parts must not overlap. Nothing is kept between calls, so calls with different buffers may run at the same time.
  *
  * The number that a call returns is 65,536 times the refusal, plus the slip's length, or for ways_check plus 1 for yes. With the refusal it has 0 below.
  *

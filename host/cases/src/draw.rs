@@ -24,8 +24,7 @@ pub enum Kind {
     Required,
 }
 
-pub const KINDS: [Kind; 8] =
-    [Kind::Tiny, Kind::Small, Kind::Full, Kind::Zero, Kind::Parallel, Kind::Long, Kind::Closed, Kind::Required];
+pub const KINDS: [Kind; 8] = [Kind::Tiny, Kind::Small, Kind::Full, Kind::Zero, Kind::Parallel, Kind::Long, Kind::Closed, Kind::Required];
 
 /// A sheet that keeps to every rule of document 01, but that more than eight nodes may be required once in a while.
 pub fn draw(kind: Kind, random: &mut Random) -> Sheet {
@@ -157,7 +156,8 @@ pub fn damaged(sheet: &Sheet, random: &mut Random) -> Vec<u8> {
 /// Numbers at and beyond the bounds that the reader knows, and numbers that are badly written.
 fn odd_number(random: &mut Random) -> Vec<u8> {
     let values = [0, 1, 2, 3, 63, 64, 65, 127, 128, 511, 512, 513, 16_383, 16_384, 65_535, 65_536, 1_000_000, 1_000_001, 2_097_152, 268_435_455];
-    let written: [&[u8]; 7] = [&[0x80, 0], &[0x81, 0x80, 0], &[0xff, 0xff, 0xff, 0xff], &[0x80, 0x80, 0x80, 0], &[0x80, 0x80, 0x80, 0x80, 1], &[0x80], &[0xff, 0x7f]];
+    let written: [&[u8]; 7] =
+        [&[0x80, 0], &[0x81, 0x80, 0], &[0xff, 0xff, 0xff, 0xff], &[0x80, 0x80, 0x80, 0], &[0x80, 0x80, 0x80, 0x80, 1], &[0x80], &[0xff, 0x7f]];
     if random.chance(2, 3) {
         number(random.pick(&values))
     } else {
@@ -167,7 +167,7 @@ fn odd_number(random: &mut Random) -> Vec<u8> {
 
 fn damage_bytes(bytes: &mut Vec<u8>, random: &mut Random) {
     let at = random.below(bytes.len() + 1);
-    let any = random.next() as u8;
+    let any = random.bits() as u8;
     let byte = random.pick(&[0, 1, 2, 3, 0x3f, 0x40, 0x41, 0x7f, 0x80, 0xff, any]);
     match random.below(5) {
         0 if at < bytes.len() => bytes[at] = byte,

@@ -19,8 +19,7 @@ mod sheet;
 mod slip;
 mod tour;
 
-pub use graph::MISSING;
 pub use operations::{check, pass, reason, SLIP_BYTES, WORK_BYTES};
-pub use sheet::{Arc, Sheet, FORBIDDEN, MANDATORY, OPEN};
-pub use slip::{program, Slip};
+pub use sheet::Sheet;
+pub use slip::program;
 pub use tour::least;

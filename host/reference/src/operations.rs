@@ -120,9 +120,9 @@ impl Pass<'_> {
     fn write_marks(&self, marks: &mut [u8]) {
         let sheet = self.sheet;
         let forced = sheet.ends_of_mandatory() | 1 << sheet.source | 1 << sheet.target;
-        for item in 0..sheet.items() {
+        for (item, mark) in marks[..sheet.items()].iter_mut().enumerate() {
             let is_forced = item < sheet.nodes && forced >> item & 1 == 1;
-            marks[item] = match sheet.marks[item] {
+            *mark = match sheet.marks[item] {
                 OPEN if !self.fits(item) => FORBIDDEN,
                 OPEN if is_forced => MANDATORY,
                 mark => mark,

@@ -69,11 +69,10 @@ impl Opening {
     fn pairs(&self, pairs: &Pairs, points: usize) -> (Pairs, bool) {
         let mut opened = *pairs;
         let mut shorter = false;
-        for to in 0..points {
-            for from in 0..points {
-                let through = self.into[from] + self.onward[to];
-                if through < opened[to][from] {
-                    opened[to][from] = through;
+        for (to, onward) in opened.iter_mut().zip(&self.onward).take(points) {
+            for (length, into) in to.iter_mut().zip(&self.into).take(points) {
+                if into + onward < *length {
+                    *length = into + onward;
                     shorter = true;
                 }
             }

@@ -61,7 +61,7 @@ pub struct Desk {
 impl Desk {
     pub fn new(seed: u64) -> Desk {
         let mut random = Random::new(seed);
-        let junk = (0..2 * MOST_LENT).map(|_| random.next() as u8).collect();
+        let junk = (0..2 * MOST_LENT).map(|_| random.bits() as u8).collect();
         Desk { random, junk, tried: Lent::default(), expected: Lent::default(), calls: [0; 3], drawn: [0; 19] }
     }
 

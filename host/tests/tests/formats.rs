@@ -68,9 +68,18 @@ fn every_byte_of_b_with_every_value() {
 #[test]
 fn every_number_of_b_replaced() {
     let mut desk = Desk::new(4);
-    let values = [0, 1, 2, 3, 4, 5, 63, 64, 65, 127, 128, 511, 512, 513, 16_383, 16_384, 65_535, 65_536, 1_000_000, 1_000_001, 2_097_151, 2_097_152, 268_435_455];
-    let written: [&[u8]; 8] =
-        [&[0x80], &[0x80, 0], &[0x80, 0x80], &[0x84, 0x80, 0], &[0x80, 0x80, 0x80, 0], &[0x80, 0x80, 0x80, 0x80], &[0x80, 0x80, 0x80, 0x80, 0], &[0xff, 0xff, 0xff, 0xff]];
+    let values =
+        [0, 1, 2, 3, 4, 5, 63, 64, 65, 127, 128, 511, 512, 513, 16_383, 16_384, 65_535, 65_536, 1_000_000, 1_000_001, 2_097_151, 2_097_152, 268_435_455];
+    let written: [&[u8]; 8] = [
+        &[0x80],
+        &[0x80, 0],
+        &[0x80, 0x80],
+        &[0x84, 0x80, 0],
+        &[0x80, 0x80, 0x80, 0],
+        &[0x80, 0x80, 0x80, 0x80],
+        &[0x80, 0x80, 0x80, 0x80, 0],
+        &[0xff, 0xff, 0xff, 0xff],
+    ];
     let good: Vec<Vec<u8>> = sheet_b().numbers().into_iter().map(number).collect();
     for at in 0..good.len() {
         let others = values.iter().map(|&value| number(value)).chain(written.iter().map(|bytes| bytes.to_vec()));
@@ -130,7 +139,8 @@ fn eight_and_nine_required() {
     for sheet in &eight {
         assert_eq!(try_all(&mut desk, &sheet.bytes()), 0);
     }
-    for sheet in [eight[0].with_mark(9, MANDATORY), eight[1].with_mark(10, MANDATORY), eight[2].with_mark(16 + 8, MANDATORY), eight[4].with_mark(10, MANDATORY)] {
+    for sheet in [eight[0].with_mark(9, MANDATORY), eight[1].with_mark(10, MANDATORY), eight[2].with_mark(16 + 8, MANDATORY), eight[4].with_mark(10, MANDATORY)]
+    {
         assert_eq!(try_all(&mut desk, &sheet.bytes()), 13);
     }
 }
@@ -145,7 +155,13 @@ fn lent_lengths() {
         for work in [0, 1, 4, 16_384, 65_532, 65_535, 65_536, 65_537, 65_538, 65_539, 65_540, 65_999, 70_000] {
             for slip in [0, 1, 10, 1_199, 1_200, 1_201, 2_000] {
                 let number = desk.call(Call::Pass(slip), sheet, work);
-                let expected = if work < 65_536 { Some(1) } else if slip < 1_200 { Some(2) } else { None };
+                let expected = if work < 65_536 {
+                    Some(1)
+                } else if slip < 1_200 {
+                    Some(2)
+                } else {
+                    None
+                };
                 assert!(expected.is_none_or(|refusal| number == refusal * REFUSED));
                 desk.call(Call::Reason(slip, 2), sheet, work);
                 desk.call(Call::Reason(slip, 99), sheet, work);
@@ -184,4 +200,31 @@ fn slips_altered_in_every_way() {
     }
     println!("slips by first number {:?}, checks {}", &tried[1..], desk.calls[2]);
     assert!(tried[1..].iter().all(|&count| count > 0));
+}
+
+/// Slips far longer than any that is written: 17 is judged to the very end before 18.
+#[test]
+fn long_slips() {
+    let mut desk = Desk::new(9);
+    let sheet = sheet_b().bytes();
+    for count in [9, 10, 127, 128, 576, 577, 16_384, 20_000] {
+        for reasons in [(0..count).collect(), vec![0; count as usize]] {
+            let slip = Slip { first: 1, goals: vec![], reasons }.bytes();
+            let expected = if count == 9 && slip[4] == 1 { 0 } else { 18 };
+            assert_eq!(desk.check(&sheet, &slip) / REFUSED, expected);
+            assert_eq!(desk.check(&sheet, &slip[..slip.len() - 1]) / REFUSED, 17);
+            assert_eq!(desk.check(&sheet, &[&slip[..], &[0]].concat()) / REFUSED, 17);
+        }
+    }
+}
+
+#[test]
+fn long_sheets() {
+    let mut desk = Desk::new(10);
+    let mut bytes = sheet_b().bytes();
+    for length in [3_144, 3_145, 8_193, 65_535, 65_536, 70_000] {
+        bytes.resize(length, 0);
+        assert_eq!(try_all(&mut desk, &bytes), 12);
+        assert_eq!(try_all(&mut desk, &vec![0x80; length]), 4);
+    }
 }
