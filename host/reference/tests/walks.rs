@@ -1,10 +1,11 @@
 //! The reference on small sheets against document 01 taken at its word: every walk up to a length is tried.
 
-use cases::{Random, Sheet, FORBIDDEN, MANDATORY, OPEN};
-use reference::{check, pass, reason, SLIP_BYTES, WORK_BYTES};
+mod by_definition;
+
+use by_definition::{required, Trial};
+use cases::{Random, Sheet, FORBIDDEN, MANDATORY};
 
 const SHEETS: usize = 100_000;
-const REFUSED: u32 = 65_536;
 
 /// Tries walks arc by arc.
 struct Search<'a> {
@@ -40,84 +41,6 @@ impl Search<'_> {
 fn fits(sheet: &Sheet, closed: &[bool], goals: &[usize]) -> bool {
     let mut search = Search { sheet, closed, goals, met: vec![false; sheet.marks.len()] };
     search.goes_on(sheet.source as usize, sheet.limit, sheet.nodes as usize * (1 + goals.len()))
-}
-
-fn forbidden(sheet: &Sheet) -> Vec<bool> {
-    sheet.marks.iter().map(|&mark| mark == FORBIDDEN).collect()
-}
-
-fn is_end_of_mandatory(sheet: &Sheet, node: usize) -> bool {
-    let mut arcs = sheet.arcs.iter().zip(&sheet.marks[sheet.nodes as usize..]);
-    arcs.any(|(arc, &mark)| mark == MANDATORY && (arc[0] as usize == node || arc[1] as usize == node))
-}
-
-fn required(sheet: &Sheet) -> Vec<usize> {
-    let ends = [sheet.source as usize, sheet.target as usize];
-    (0..sheet.nodes as usize).filter(|node| !ends.contains(node) && (sheet.marks[*node] == MANDATORY || is_end_of_mandatory(sheet, *node))).collect()
-}
-
-fn verdict(sheet: &Sheet) -> (u8, Vec<usize>) {
-    let closed = forbidden(sheet);
-    if !fits(sheet, &closed, &[]) {
-        return (1, vec![]);
-    }
-    let unmet = (0..sheet.marks.len()).find(|&item| sheet.marks[item] == MANDATORY && !fits(sheet, &closed, &[item]));
-    if let Some(item) = unmet {
-        return (2, vec![item]);
-    }
-    let stops = required(sheet);
-    if !fits(sheet, &closed, &stops) {
-        return (3, stops);
-    }
-    (0, vec![])
-}
-
-fn reasons(sheet: &Sheet, goals: &[usize]) -> Vec<usize> {
-    let mut closed = forbidden(sheet);
-    let mut listed = vec![];
-    for item in 0..closed.len() {
-        if closed[item] {
-            closed[item] = false;
-            if fits(sheet, &closed, goals) {
-                closed[item] = true;
-                listed.push(item);
-            }
-        }
-    }
-    listed
-}
-
-/// Items and counts of small sheets are below 128 and so one byte each.
-fn slip(first: u8, goals: &[usize], reasons: &[usize]) -> Vec<u8> {
-    let lists = [goals, reasons].map(|list| [&[list.len()], list].concat()).concat();
-    [first].into_iter().chain(lists.into_iter().map(|x| x as u8)).collect()
-}
-
-fn new_mark(sheet: &Sheet, item: usize) -> u8 {
-    let ends = [sheet.source as usize, sheet.target as usize];
-    let is_forced = item < sheet.nodes as usize && (ends.contains(&item) || is_end_of_mandatory(sheet, item));
-    match sheet.marks[item] {
-        OPEN if !fits(sheet, &forbidden(sheet), &[item]) => FORBIDDEN as u8,
-        OPEN if is_forced => MANDATORY as u8,
-        mark => mark as u8,
-    }
-}
-
-fn expected_pass(sheet: &Sheet) -> Vec<u8> {
-    let (verdict, goals) = verdict(sheet);
-    if verdict > 0 {
-        return slip(verdict, &goals, &reasons(sheet, &goals));
-    }
-    [0].into_iter().chain((0..sheet.marks.len()).map(|item| new_mark(sheet, item))).collect()
-}
-
-fn expected_reason(sheet: &Sheet, passed: &[u8], item: usize) -> Result<Vec<u8>, u32> {
-    let pruned = passed[0] == 0 && sheet.marks[item] == OPEN && passed[item + 1] == 2;
-    if pruned {
-        Ok(slip(4, &[item], &reasons(sheet, &[item])))
-    } else {
-        Err(16 * REFUSED)
-    }
 }
 
 /// The number of arcs of a fan that are drawn freely. They stand in front.
@@ -158,62 +81,33 @@ fn draw(random: &mut Random) -> Sheet {
     sheet
 }
 
-fn finished(number: u32, slip: &[u8]) -> Result<Vec<u8>, u32> {
-    if number < REFUSED {
-        Ok(slip[..number as usize].to_vec())
-    } else {
-        Err(number)
-    }
-}
-
-/// Check on a slip of random content: yes where the rule of document 01 says so.
-fn try_check(sheet: &Sheet, bytes: &[u8], work: &mut [u8], random: &mut Random) -> u32 {
+/// Check on a slip of random content.
+fn try_check(trial: &mut Trial, sheet: &Sheet, random: &mut Random) -> bool {
     let listed: Vec<usize> = (0..sheet.marks.len()).filter(|_| random.chance(1, 3)).filter(|&item| sheet.marks[item] == FORBIDDEN).collect();
-    let first = random.between(1, 4) as u8;
-    let stops = required(sheet);
+    let first = random.between(1, 4) as u32;
     let goals: Vec<usize> = match first {
         1 => vec![],
-        3 => stops.iter().copied().filter(|_| random.chance(2, 3)).collect(),
+        3 => required(sheet).into_iter().filter(|_| random.chance(2, 3)).collect(),
         _ => vec![random.below(sheet.marks.len())],
     };
-    if first == 3 && goals.is_empty() {
-        return 0;
-    }
-    let marked = match first {
-        2 => sheet.marks[goals[0]] == MANDATORY,
-        4 => sheet.marks[goals[0]] == OPEN,
-        _ => true,
-    };
-    let closed: Vec<bool> = (0..sheet.marks.len()).map(|item| listed.contains(&item)).collect();
-    let expected = u32::from(marked && !fits(sheet, &closed, &goals));
-    assert_eq!(check(bytes, work, &slip(first, &goals, &listed)), expected, "{sheet:?} {first} {goals:?} {listed:?}");
-    expected
+    let is_empty_third = first == 3 && goals.is_empty();
+    !is_empty_third && trial.check(sheet, first, &goals, &listed)
 }
 
 #[test]
 fn small_sheets_by_every_walk() {
     let mut random = Random::new(1);
-    let (mut work, mut slip) = (vec![0; WORK_BYTES], vec![0; SLIP_BYTES]);
-    let (mut verdicts, mut with_reasons) = ([0; 4], [0; 4]);
-    let (mut pruned, mut yes) = (0, 0);
+    let mut trial = Trial::new(fits);
+    let mut yes = 0;
     for _ in 0..SHEETS {
         let sheet = draw(&mut random);
-        let bytes = sheet.bytes();
-        let number = pass(&bytes, &mut work, &mut slip);
-        let passed = finished(number, &slip).expect("a good sheet");
-        assert_eq!(passed, expected_pass(&sheet), "{sheet:?}");
-        verdicts[usize::from(passed[0])] += 1;
-        // the last byte of a refused route's slip is the count 0 or a reason
-        with_reasons[usize::from(passed[0])] += usize::from(passed.last() != Some(&0));
+        let passed = trial.pass(&sheet);
         for item in 0..sheet.marks.len() {
-            let number = reason(&bytes, &mut work, &mut slip, item as u32);
-            let expected = expected_reason(&sheet, &passed, item);
-            pruned += usize::from(expected.is_ok());
-            assert_eq!(finished(number, &slip), expected, "{sheet:?} {item}");
+            trial.reason(&sheet, &passed, item);
         }
-        yes += try_check(&sheet, &bytes, &mut work, &mut random);
+        yes += usize::from(try_check(&mut trial, &sheet, &mut random));
     }
-    println!("sheets by verdict {verdicts:?}, with reasons {:?}, pruned items {pruned}, checks with yes {yes}", &with_reasons[1..]);
-    assert!(verdicts.iter().all(|&count| count > SHEETS / 100), "a verdict is rare");
-    assert!(with_reasons[1..].iter().all(|&count| count > SHEETS / 500), "reasons are rare");
+    println!("{SHEETS} sheets: {:?}, checks with yes {yes}", trial.counts);
+    assert!(trial.counts.verdicts.iter().all(|&count| count > SHEETS / 100), "a verdict is rare");
+    assert!(trial.counts.with_reasons[1..].iter().all(|&count| count > SHEETS / 500), "reasons are rare");
 }
