@@ -18,13 +18,14 @@
  *   verdict 2   The goal is a must item that no such walk meets, the lowest.
  *   verdict 3   The goals are the counted stops: no such walk meets them all.
  *
- * The reasons are shut items of the sheet that no walk clear of them, all else open, can do without: none meets the goals within the limit, and for each reason some
- * walk does once it is open too.
+ * The reasons are shut items of the sheet: no walk clear of them, all else open, meets the goals within the limit, and for each of them some walk does once it is
+ * open as well.
  *
  * Every function takes any bytes and any lengths, always returns, and reads and writes nothing outside what it is lent. A pointer must be good for as many bytes
- * as its length says, and not null even where that is 0; the lent parts must not overlap. Nothing is kept between calls, so calls with different buffers may run at the same time.
+ * as its length says, and not null even where that is 0; the lent parts must not overlap. Nothing is kept between calls, so calls with different buffers may run
+ * at the same time.
  *
- * The number that a call returns is 65,536 times the refusal, plus the slip's length, or for ways_check plus 1 for yes. With the refusal it has 0 below.
+ * The number that a call returns is 65,536 times the refusal, plus the slip's length, or for ways_check plus 1 for yes. A refused call gives length 0, or no.
  *
  *   refusal   who            why
  *    0        all            none: the call finished
