@@ -1,13 +1,16 @@
-//! A second implementation of pass, reason and check, written from document 01 alone, to hold the proved library to.
+//! A second implementation of pass, reason and check, written from document 01, to hold the proved library to. Points that document 01 leaves open are settled as
+//! docs/DECISIONS.md has them, so a fault there would be in both.
 //!
-//! It shares no code and no method with the library. The library relaxes rows of lengths by sweeps over the arcs up to the limit, and fills an order table over
-//! the goals. Here:
+//! It shares no code with the library. What differs: the library relaxes rows of lengths by sweeps over the arcs up to the limit, and puts rows back where an opening is
+//! not kept. Here
 //!
 //! - lengths come from Dijkstra's algorithm over linked lists of arcs, the frontier being a set of nodes held in one 64-bit mark; they are whole 64-bit numbers
 //!   that know no limit;
-//! - a walk through several goals is judged by the lengths between pairs of goals alone, in a table over sets of goals that is skipped where no pair changed;
 //! - the list of reasons never undoes anything. With the lengths *from* each goal and *to* each goal, the pairs that an opening would give follow from the lengths
 //!   at the opened item: only an item that stays open is put into the graph, and the lengths are mended from there.
+//!
+//! What is alike: both fill a table over sets of goals and the goal reached last (Algorithm 1 of source document 002). The reference's own tests do without it: they
+//! try every walk of small sheets, and every order of the goals on large ones.
 //!
 //! The words are those of docs/GLOSSARY.md: node, arc, source, target, open, mandatory, forbidden, required.
 
