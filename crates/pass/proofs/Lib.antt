@@ -2,3 +2,4 @@ pub mod SlipLaws
 pub mod OutcomeLaws
 pub mod PassLaws
 pub mod AnswerLaws
+pub mod Calls

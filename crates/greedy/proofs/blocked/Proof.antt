@@ -1,4 +1,4 @@
--- `greedy::blocked` meets its contract. Assumes nothing.
+-- `greedy::blocked` meets its contract: the three ways to the answer are those of TurnLaws: no row is another, no entry that matters is another, or the table is asked. Assumes nothing.
 use Prim.Native.Nat.{_+_}
 use mathlib.Core.Path.{_∙_}
 use native.Mathlib.Omega.{arith}

@@ -1,10 +1,6 @@
--- `reopen::entering` meets its contract: the arcs join nodes below 64. Assumes nothing.
-use Prim.Native.Nat.{ℕ, _+_, _*_, _-_, _/_, _≤_, _<_}
-use mathlib.Core.Path.{_≡_, refl, sym, ap, _∙_, subst}
-use mathlib.Core.List.{List}
+-- `reopen::entering` meets its contract: any set of nodes does; the arcs join nodes below 64, so that each has its bit. Assumes nothing.
+use Prim.Native.Nat.{_-_, _≤_}
 use native.Mathlib.Omega.{arith}
-use borrow.Author.Needs.{needs}
-use lib.ListN.{length, getD, drop}
 use Rattle.reopen.proofs.entering.Statement.{statement}
 use Rattle.reopen.proofs.entering.Tie as tie
 

@@ -1,10 +1,5 @@
--- `reopen::mend_cut_row` meets its contract. Assumes nothing.
-use Prim.Native.Nat.{ℕ, _+_, _*_, _-_, _/_, _≤_, _<_}
-use mathlib.Core.Path.{_≡_, refl, sym, ap, _∙_, subst}
-use mathlib.Core.List.{List}
-use native.Mathlib.Omega.{arith}
+-- `reopen::mend_cut_row` meets its contract: a row that the opened arc can cut is sound for the new marks and is mended, and else it holds the least lengths as it is. Assumes nothing.
 use borrow.Author.Needs.{needs}
-use lib.ListN.{length, getD, drop}
 use Rattle.reopen.proofs.ArcOpened.{arc-start, arc-sound, arc-kept}
 use Rattle.reopen.proofs.mend_cut_row.Statement.{statement}
 use Rattle.reopen.proofs.mend_cut_row.Tie as tie

@@ -1,7 +1,6 @@
--- `reopen::open_arc` meets its contract. Assumes nothing.
+-- `reopen::open_arc` meets its contract: the rows are kept behind before they are mended, and mending leaves what lies behind them. Assumes nothing.
 use native.Mathlib.Omega.{arith}
 use borrow.Author.Needs.{needs}
-use Rattle.rows.specs.Net.{netOf}
 use Rattle.reopen.proofs.RowsOpened.{kept-rows, beside, reopened, opened-arc}
 use Rattle.reopen.proofs.open_arc.Statement.{statement}
 use Rattle.reopen.proofs.open_arc.Tie as tie

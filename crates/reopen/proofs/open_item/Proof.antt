@@ -1,4 +1,4 @@
--- `reopen::open_item` meets its contract. Assumes nothing.
+-- `reopen::open_item` meets its contract: a node or a goal opens with the rows mended; any other arc may be passed where it can cut nothing. Assumes nothing.
 use Prim.Native.Nat.{_-_, _<_}
 use native.Mathlib.Omega.{arith}
 use borrow.Author.Needs.{needs}
@@ -51,7 +51,7 @@ idle-requires c κs =
       omega (arith, L .tail, p .few),
       omega (arith, L .head, p .few),
       omega (arith, L .head, p .marked),
-      s .pre .1 .1 .room,
+      omega (arith, s .pre .1 .1 .room),
       s .pre .1 .2,
     )
 

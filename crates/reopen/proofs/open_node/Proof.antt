@@ -1,4 +1,4 @@
--- `reopen::open_node` meets its contract. Assumes nothing.
+-- `reopen::open_node` meets its contract: the rows are kept behind before they are mended, and opening a node keeps them sound. Assumes nothing.
 use native.Mathlib.Omega.{arith}
 use borrow.Author.Needs.{needs}
 use Rattle.rows.specs.Net.{netOf}
