@@ -1,7 +1,7 @@
 -- From check over numbers to the same over bytes, as for pass and reason. Assumes nothing.
 use Prim.Native.Nat.{ℕ, _+_, _*_, _≤_, _<_}
 use mathlib.Core.Path.{_≡_, refl, ap, _∙_}
-use mathlib.Core.Bool.{Bool, true, false}
+use mathlib.Core.Bool.{Bool}
 use mathlib.Core.List.{List}
 use native.Mathlib.Omega.{arith}
 use lib.ListN.{length}
@@ -18,10 +18,6 @@ use Rattle.planner.proofs.LeftLaws.{left-finished, left-refused}
 abbrev pub Drawn : Read Bool → Type 0
 Drawn (got answer rest) = Unit {0}
 Drawn (refuse e) = (1 ≤ e) × (e ≤ 18)
-
-pub yes-small : (answer : Bool) → yesNumber answer ≤ 1200
-yes-small true = omega arith
-yes-small false = omega arith
 
 -- 1: too few bytes of work
 pub short-check : (sheet work slip : List ℕ) → length work < 65536 → record { number = 65536; work = work } ≡ checkedBytes sheet work slip

@@ -54,7 +54,7 @@ fn one_number(number: u32, length: usize) -> u32
 
 // What yes adds to the one number of a check.
 fn yes_number(yes: bool) -> usize
-    ensures { λ r. ⌜ r ≡ yesNumber yes ⌝ }
+    ensures { λ r. ⌜ (r ≡ yesNumber yes) × (r ≤ 1) ⌝ }
 {
     if yes { 1 } else { 0 }
 }

@@ -1,8 +1,9 @@
 -- `ways_check` meets its contract: check over numbers, told in bytes. Assumes nothing.
 use Prim.Native.Nat.{ℕ, _+_, _*_}
 use mathlib.Core.Path.{ap, _∙_}
+use native.Mathlib.Omega.{arith}
 use borrow.Author.Needs.{needs}
-use Rattle.planner.proofs.CheckLaws.{yes-small, short-check, check-in-bytes, check-small}
+use Rattle.planner.proofs.CheckLaws.{short-check, check-in-bytes, check-small}
 use Rattle.planner.proofs.WithinLaws.{check-drawn}
 use Rattle.planner.proofs.ways_check.Statement.{statement}
 use Rattle.planner.proofs.ways_check.Tie as tie
@@ -26,7 +27,7 @@ one-number-requires : tie.Need-one-number-requires
 one-number-requires c κs =
     let s = c .before .before .before .before .before .before .before .before .before .before .before .before in
     let k = c .before .before .before .before .before .before .check in
-    (check-small (s .args .sheet .now) _ (s .args .work .now) (s .args .slip .now) (search needs) (search needs) (check-drawn (s .args .sheet .now) (s .args .slip .now)) _ (k .ensures), rw (c .yes-number .ensures) (yes-small (k .result .yes)))
+    (check-small (s .args .sheet .now) _ (s .args .work .now) (s .args .slip .now) (search needs) (search needs) (check-drawn (s .args .sheet .now) (s .args .slip .now)) _ (k .ensures), omega (arith, c .yes-number .ensures .1))
 
 same-length : tie.Need-same-length
 same-length c = search needs
@@ -35,7 +36,7 @@ returns-2 : tie.Need-returns-2
 returns-2 c =
     let s = c .before .before .before .before .before .before .before .before .before .before .before .before .before in
     let k = c .before .before .before .before .before .before .before .check in
-    check-in-bytes (s .args .sheet .now) _ (s .args .work .now) (s .args .slip .now) (search needs) (search needs) (check-drawn (s .args .sheet .now) (s .args .slip .now)) _ (k .ensures) (c .one-number .ensures ∙ ap (λ (n : ℕ). 65536 * k .result .number + n) (c .before .yes-number .ensures)) (c .before .before .before .before .leave .ensures)
+    check-in-bytes (s .args .sheet .now) _ (s .args .work .now) (s .args .slip .now) (search needs) (search needs) (check-drawn (s .args .sheet .now) (s .args .slip .now)) _ (k .ensures) (c .one-number .ensures ∙ ap (λ (n : ℕ). 65536 * k .result .number + n) (c .before .yes-number .ensures .0)) (c .before .before .before .before .leave .ensures)
 
 pub ways-check-spec : {M : Type 1} → statement M
 ways-check-spec =
