@@ -9,7 +9,7 @@ use lib.Dec.{ltb}
 use borrow.Author.Tests.{lt-ltb, le-ltb, ltb-true, ltb-false}
 use lib.ListN.{length, getD, set, take, drop, length-append, length-take}
 use lib.Seq.{take-nil, take-suc, take-all}
-use Rattle.lists.specs.Lists.{front}
+use Rattle.lists.specs.Lists.{pick, front}
 use Rattle.lists.proofs.FrontLaws.{length-front, push-at, part-front, Put, put}
 use Rattle.lines.specs.Lines.{digits, decimal, spaced, row, line}
 
@@ -177,3 +177,22 @@ module _ (word xs d : List ℕ) (fits : length (line word xs) ≤ length d) wher
     rw (length-append (word ++ row xs) (10 ∷ [])) (omega (arith, w .at-end)),
     push-at (word ++ row xs) d out at 10 (w .holds) (sym (w .at-end)) (omega (arith, line-room, w .at-end)),
   )
+
+-- ten digits at most, and so eleven bytes for each number
+digits-size : (k n : ℕ) → length (digits k n) ≤ suc k
+unfolding digits
+digits-size zero n = omega arith
+digits-size (suc k) n = go (digits-size k (n / 10)) (ltb n 10)
+  where
+    go : length (digits k (n / 10)) ≤ suc k → (t : Bool) → length (pick t ((48 + n) ∷ []) (digits k (n / 10) ++ ((48 + n % 10) ∷ []))) ≤ suc (suc k)
+    go h true = omega arith
+    go h false = simp length-append (omega arith)
+
+row-size : (xs : List ℕ) → length (row xs) ≤ 11 * length xs
+unfolding row spaced decimal
+row-size [] = omega arith
+row-size (x ∷ xs) = let q = row-size xs in let d = digits-size 9 x in simp length-append (omega arith)
+
+pub line-size : (word xs : List ℕ) → length (line word xs) ≤ length word + 11 * length xs + 1
+unfolding line
+line-size word xs = simp length-append (omega (arith, row-size xs))
