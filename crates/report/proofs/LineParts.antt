@@ -1,12 +1,13 @@
 -- The lines of a text, one behind the other, and how long they are. Assumes nothing.
 use Prim.Native.Nat.{ℕ, _+_, _≤_, _<_}
-use mathlib.Core.Path.{_≡_, refl}
+use mathlib.Core.Path.{_≡_, refl, sym, ap, _∙_}
 use mathlib.Core.Bool.{true}
 use mathlib.Core.List.{List, [], _∷_, _++_}
 use native.Mathlib.Omega.{arith}
-use lib.ListN.{length, length-append}
+use lib.ListN.{length, take, drop, length-append}
+use lib.Seq.{take-at}
 use borrow.Author.Tests.{lt-ltb}
-use Rattle.lists.specs.Lists.{every}
+use Rattle.lists.specs.Lists.{every, front}
 use Rattle.lists.proofs.TestLaws.{true-and}
 use Rattle.varint.specs.Answer.{small}
 use Rattle.sheet.specs.Slip.{Slip}
@@ -41,3 +42,9 @@ unfolding blameText
 blame-size s g h =
     rw (length-append (line verdictWord (s .first ∷ []) ++ line needsWord (s .goals)) (line becauseWord (s .reasons)), length-append (line verdictWord (s .first ∷ [])) (line needsWord (s .goals)))
     (omega (arith, line-size verdictWord (s .first ∷ []), line-size needsWord (s .goals), line-size becauseWord (s .reasons)))
+
+-- a text in front of `out` is a part of it
+pub within : (bs d out : List ℕ) (r : ℕ) → r ≡ length bs → out ≡ front bs d → (r ≤ length out) × (r ≡ length (take r out))
+within bs d out r e h =
+    let t : take r out ≡ bs = rw h (take-at bs (drop (length bs) d) r (sym e)) in
+    (omega (arith, e, ap length h ∙ length-append bs (drop (length bs) d)), e ∙ ap length (sym t))

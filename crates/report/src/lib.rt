@@ -3,7 +3,7 @@ ghost use mathlib.Core.Path.{_≡_};
 ghost use mathlib.Core.Bool.{true, _&&_};
 ghost use mathlib.Core.List.{[]};
 ghost use Prim.Native.Nat.{_≤_, _<_};
-ghost use lib.ListN.{length};
+ghost use lib.ListN.{length, take};
 ghost use lib.Dec.{eqb};
 ghost use Rattle.lists.specs.Lists.{front};
 ghost use Rattle.varint.specs.Answer.{small};
@@ -118,12 +118,14 @@ fn write_slip(sheet: &[u8], slip: &[u8], out: &mut [u8]) -> usize
     write_blame(sheet, slip, out)
 }
 
-// Runs the pass on a sheet, writes what it answers over the front of `out` and gives the text's length.
+// Runs the pass on a sheet, writes what it answers over the front of `out` and gives the text's length. The last clause follows from the first two; it
+// lets a caller take that part of `out` with no proof of its own.
 pub fn report(sheet: &[u8], work: &mut [u32], out: &mut [u8]) -> usize
     requires { ⌜ 8192 ≤ length (now out) ⌝ }
     ensures { λ r. ⌜ r ≡ length (text (now (sheet .entry)) (answerTo (now (sheet .entry)) (now (work .entry)))) ⌝ }
     ensures { λ _. ⌜ now (out .exit) ≡ front (text (now (sheet .entry)) (answerTo (now (sheet .entry)) (now (work .entry)))) (now (out .entry)) ⌝ }
     ensures { λ _. ⌜ now (work .exit) ≡ outcome (answerTo (now (sheet .entry)) (now (work .entry))) (now (work .entry)) [] .work ⌝ }
+    ensures { λ r. ⌜ (r ≤ length (now (out .exit))) × (r ≡ length (take r (now (out .exit)))) ⌝ }
 {
     let mut slip = [0u8; SLIP_BYTES];
     let answer = pass::pass(sheet, work, &mut slip);

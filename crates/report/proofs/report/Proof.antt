@@ -1,7 +1,11 @@
 -- `report` prints what its call of pass answers: the refusal's line, or the text of the slip. Assumes nothing.
 use borrow.Author.Needs.{needs}
 use native.Mathlib.Omega.{arith}
-use Rattle.report.proofs.LineParts.{small-one}
+use Rattle.report.proofs.LineParts.{small-one, within}
+use Rattle.lines.specs.Lines.{line}
+use Rattle.report.specs.Text.{refusedWord, slipText}
+use mathlib.Core.List.{[], _∷_}
+use lib.ListN.{take}
 use Rattle.report.proofs.AnswerLaws.{work-left, refused-call, finished-call}
 use Rattle.report.proofs.report.Statement.{statement}
 use Rattle.report.proofs.report.Tie as tie
@@ -40,7 +44,7 @@ returns c =
     let p = c .before .before .before .before .before .before .before .before .before .before .before .before .pass in
     let r = refused-call (s .args .sheet .now) (s .args .work .now) _ (omega arith) _ _ _ _ (p .ensures) (c .before .before .before .before .before .before .before .if1 .taken) in
     let w = c .before .before .put-line .ensures in
-    rw (r .printed) (w .0, (w .1, work-left (s .args .sheet .now) (s .args .work .now) _ (omega arith) _ _ _ _ (p .ensures)))
+    rw (r .printed) (w .0, (w .1, (work-left (s .args .sheet .now) (s .args .work .now) _ (omega arith) _ _ _ _ (p .ensures), within (line refusedWord (p .result .number ∷ [])) _ _ _ (w .0) (w .1))))
 
 array-share-prefix-slip : tie.Need-array-share-prefix-slip
 array-share-prefix-slip c =
@@ -72,7 +76,7 @@ returns-2 c =
     let p = c .before .before .before .before .before .before .before .before .before .before .pass in
     let r = finished-call (s .args .sheet .now) (s .args .work .now) _ (omega arith) _ _ _ _ (p .ensures) (c .before .before .before .before .before .if1 .left) in
     let w = c .before .before .write-slip .ensures in
-    rw (r .printed) (w .0, (w .1, work-left (s .args .sheet .now) (s .args .work .now) _ (omega arith) _ _ _ _ (p .ensures)))
+    rw (r .printed) (w .0, (w .1, (work-left (s .args .sheet .now) (s .args .work .now) _ (omega arith) _ _ _ _ (p .ensures), within (slipText (s .args .sheet .now) (take (p .result .length) (p .last .1 .1 .0))) _ _ _ (w .0) (w .1))))
 
 pub report-spec : {M : Type 1} → statement M
 report-spec =
