@@ -1,0 +1,4 @@
+pub mod LineParts
+pub mod SlipTextLaws
+pub mod AnswerLaws
+pub mod StruckLaws
