@@ -20,7 +20,7 @@ use Rattle.verdict.proofs.AcceptedLaws.{accepted-taken}
 use Rattle.verify.specs.Check.{wellFormed, holds, judgedOn, checkOn, Outcome, outcome, checked}
 use Rattle.checker.specs.declared.Answer.{Answer}
 use Rattle.checker.specs.Answer.{answerOf, formOf}
-use Rattle.checker.proofs.RefusalLaws.{refused-low}
+use Rattle.sheet.proofs.RefusalLaws.{taken-refuses}
 
 -- the answer on a slip, from how it is written
 module _ (S : Sheet) (slip : List ℕ) (r : SlipRead) (e : slipOf slip r ≡ readSlip slip) where
@@ -74,7 +74,7 @@ module _ (sheet work slip : List ℕ) where
       → given a work ≡ checked sheet work slip
   unfolding checkOn after outcome workAfter answerOf
   checked-refused a w e h t =
-      let z : leb w 13 ≡ true = le-leb w 13 (refused-low sheet w t) in
+      let z : leb w 13 ≡ true = le-leb w 13 (taken-refuses sheet w t .1) in
       rw e (rw (accepted-taken sheet, t, z) at (on-sheet h))
 
   -- 17, 18, yes or no: the work's numbers are zero

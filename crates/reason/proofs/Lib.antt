@@ -3,3 +3,4 @@ pub mod Demand3
 pub mod Star
 pub mod ItemLaws
 pub mod SaidLaws
+pub mod Calls

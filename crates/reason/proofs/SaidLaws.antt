@@ -31,7 +31,7 @@ unfolding reasonOn after
 on-sheet sheet i S e = rw (accepted-taken sheet, e)
 
 -- what is refused for an item is 15 or 16
-item-late : (i : ℕ) (S : Sheet) (w : ℕ) → reasonIn i S [] ≡ refuse w → 13 < w
+pub item-late : (i : ℕ) (S : Sheet) (w : ℕ) → reasonIn i S [] ≡ refuse w → 13 < w
 unfolding reasonIn
 item-late i S w e = go (slipBytes (slipFor S 4 (i ∷ []))) (ltb i (itemCount (S .graph))) (prunes S i) e
   where

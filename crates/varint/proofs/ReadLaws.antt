@@ -47,7 +47,8 @@ groups-more :
 unfolding readGroups
 groups-more s i left h l = rw (drop-cons s i 0 h) (simp (le-ltb _ _ l))
 
-last-kept : (left b : ℕ) (bs : List ℕ) → (b ≡ 0 → 3 ≤ left) → lastGroup left b bs ≡ got b bs
+-- a last group is taken unless it is a needless zero
+pub last-kept : (left b : ℕ) (bs : List ℕ) → (b ≡ 0 → 3 ≤ left) → lastGroup left b bs ≡ got b bs
 unfolding lastGroup
 last-kept left zero bs f = simp (le-ltb _ _ (f refl))
 last-kept left (suc b) bs f = let z : suc b ≡ 0 → ⊥ = λ e. omega (arith, e) in simp (ne-eqb (suc b) 0 z)

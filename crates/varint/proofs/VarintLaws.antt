@@ -1,24 +1,16 @@
 -- A number written reads back as itself with any bytes after it, and what was read does not depend on the bytes after it. Assumes nothing.
 use Prim.Native.Nat.{ℕ, zero, suc, _+_, _-_, _*_, _/_, _%_, _≤_, _<_}
 use mathlib.Core.Path.{_≡_, refl, sym, ap, _∙_, subst}
-use mathlib.Core.Bool.{Bool, true, false, _&&_, false≢true}
+use mathlib.Core.Bool.{Bool, true, false, _&&_}
 use mathlib.Core.List.{List, [], _∷_, _++_, append-assoc}
 use native.Mathlib.Omega.{arith}
 use lib.ListN.{length, length-append}
 use lib.Dec.{eqb, ltb}
-use borrow.Author.Tests.{eqb-true, ltb-true, ltb-false, le-ltb, lt-ltb}
+use borrow.Author.Tests.{ltb-true, ltb-false, le-ltb, lt-ltb}
 use Rattle.lists.specs.Lists.{pick}
 use Rattle.lists.proofs.Pigeonhole.{Below, below-append}
+use Rattle.varint.proofs.ReadLaws.{last-kept}
 use Rattle.varint.specs.Varint.{Read, got, refuse, after, lastGroup, above, readGroups, readNumber, judged, number, several, writeGroups, writeNumber, writeNumbers}
-
--- a last group is taken unless it is a needless zero
-last-group : (left b : ℕ) (bs : List ℕ) → (b ≡ 0 → 3 ≤ left) → lastGroup left b bs ≡ got b bs
-unfolding lastGroup
-last-group left b bs f = go (eqb b 0) refl
-  where
-    go : (t : Bool) → eqb b 0 ≡ t → pick (t && ltb left 3) (refuse 4) (got b bs) ≡ got b bs
-    go true q = let z : ltb left 3 ≡ false = le-ltb left 3 (f (eqb-true b 0 q)) in rw z
-    go false q = refl
 
 -- what k + 1 groups hold
 abbrev cap : ℕ → ℕ
@@ -27,12 +19,12 @@ cap (suc k) = 128 * cap k
 
 groups-back : (k x : ℕ) (t : List ℕ) → x < cap k → (x ≡ 0 → 3 ≤ k) → readGroups k (writeGroups k x ++ t) ≡ got x t
 unfolding readGroups writeGroups above
-groups-back zero x t h f = let z : ltb x 128 ≡ true = lt-ltb x 128 h in rw z (last-group zero x t f)
+groups-back zero x t h f = let z : ltb x 128 ≡ true = lt-ltb x 128 h in rw z (last-kept zero x t f)
 groups-back (suc k) x t h f = go (ltb x 128) refl (groups-back k (x / 128) t (omega arith))
   where
     go : (b : Bool) → ltb x 128 ≡ b → ((x / 128 ≡ 0 → 3 ≤ k) → readGroups k (writeGroups k (x / 128) ++ t) ≡ got (x / 128) t)
         → readGroups (suc k) (pick b (x ∷ []) ((128 + x % 128) ∷ writeGroups k (x / 128)) ++ t) ≡ got x t
-    go true q ih = rw q (last-group (suc k) x t f)
+    go true q ih = rw q (last-kept (suc k) x t f)
     go false q ih =
         let l = ltb-false x 128 q in
         let z : ltb (128 + x % 128) 128 ≡ false = le-ltb (128 + x % 128) 128 (omega arith) in
