@@ -42,7 +42,7 @@ number-back a b c d xs p q r s =
     let h₁ : x / 16777216 % 256 ≡ d = rw h (omega arith) in
     rw (e, f₁, g₁, h₁)
 
-pub bytes-back : (k : ℕ) (bytes : List ℕ) → Below 256 bytes → 4 * k ≤ length bytes → bytesOf (numbersOf k bytes) ≡ take (4 * k) bytes
+bytes-back : (k : ℕ) (bytes : List ℕ) → Below 256 bytes → 4 * k ≤ length bytes → bytesOf (numbersOf k bytes) ≡ take (4 * k) bytes
 unfolding numbersOf bytesOf
 bytes-back zero bytes b h = refl
 bytes-back (suc k) [] b h = absurd (omega arith)

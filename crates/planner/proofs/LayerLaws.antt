@@ -27,7 +27,7 @@ unfolding outcome lentEnough bytesAfter
 short-bytes a work slip h = rw (lt-ltb (length work) 65536 h)
 
 -- the operation's outcome over numbers, told in bytes
-abbrev pub told : pass.Outcome → List ℕ → Outcome
+abbrev told : pass.Outcome → List ℕ → Outcome
 told o work = record { number = 65536 * o .number + o .length; work = leftBytes (o .number) work; slip = o .slip }
 
 module _ (numbers work slip : List ℕ) (g : 16384 ≤ length numbers) (h : 65536 ≤ length work) (a : Answer) (w : Within a) where

@@ -1,7 +1,8 @@
 // The planner's layer (document 01, 'The operations and what they refuse'): the operations for a program in C, with numbers and byte slices alone.
 //
 // The work is lent as bytes, four per number, low byte first. What its numbers hold has no effect on an answer, and an operation leaves them as found or zero;
-// so each call lends the operation numbers of its own, and the bytes are left as found or zeroed by the same rule.
+// so each call lends the operation numbers of its own, and the bytes are left as found or zeroed by the same rule. That this is what copying the bytes in and
+// the numbers out would give are the laws `pass-copied`, `reason-copied` and `check-copied`.
 ghost use mathlib.Core.Path.{_≡_};
 ghost use Prim.Native.Nat.{_+_, _*_, _≤_};
 ghost use lib.ListN.{length};
