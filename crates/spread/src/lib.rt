@@ -160,12 +160,11 @@ pub fn row_from(nodes: usize, arcs: &[u32], marks: &[u8], from: usize, row: &mut
     fill_row(&packed[..n], &chains, marks, from, row, cap);
 }
 
-// The arcs with tail and head exchanged.
-fn turned(arcs: &[u32]) -> [u32; ARC_NUMBERS]
-    requires { ⌜ length (now arcs) ≤ 1536 ⌝ }
-    ensures { λ r. ⌜ (length r ≡ 1536) × TurnedTo (arcCount (now (arcs .entry))) (now (arcs .entry)) r ⌝ }
+// Writes the arcs with tail and head exchanged to the front of `back`.
+fn turn(arcs: &[u32], back: &mut [u32])
+    requires { ⌜ (length (now arcs) ≤ 1536) × (length (now back) ≡ 1536) ⌝ }
+    ensures { λ _. ⌜ TurnedTo (arcCount (now (arcs .entry))) (now (arcs .entry)) (now (back .exit)) ⌝ }
 {
-    let mut back = [0u32; ARC_NUMBERS];
     let m = arcs.len() / 3;
     let mut i = 0;
     while i < m {
@@ -175,7 +174,6 @@ fn turned(arcs: &[u32]) -> [u32; ARC_NUMBERS]
         back[at + 2] = arcs[at + 2];
         i += 1;
     }
-    back
 }
 
 // Leaves in `row` the least length from each node to `to`, clear of the forbidden items; MISSING above `cap`.
@@ -184,7 +182,8 @@ pub fn row_to(nodes: usize, arcs: &[u32], marks: &[u8], to: usize, row: &mut [u3
     requires { ⌜ (length (now row) ≡ 64) × (to < nodes) × (cap < missing) ⌝ }
     ensures { λ _. ⌜ RowTo (netOf nodes (now (arcs .entry)) (now (marks .entry))) cap to (now (row .exit)) ⌝ }
 {
-    let back = turned(arcs);
+    let mut back = [0u32; ARC_NUMBERS];
+    turn(arcs, &mut back);
     let n = arcs.len();
     row_from(nodes, &back[..n], marks, to, row, cap);
 }

@@ -7,40 +7,55 @@ use Rattle.spread.proofs.TurnLaws.{turned-proper, row-to}
 use borrow.Author.Needs.{needs}
 use Rattle.spread.proofs.row_to.Statement.{statement}
 use Rattle.spread.proofs.row_to.Tie as tie
+use Rattle.spread.proofs.row_to.Reads as reads
+use Rattle.spread.proofs.row_to.Lts as lts
+use Rattle.spread.proofs.row_from.Reads as row-from-reads
+use Rattle.spread.proofs.turn.Reads as turn-reads
 
-turned-requires : tie.Need-turned-requires
-turned-requires c κs = search needs
+-- src/lib.rt:186:16
+slice-aggregate-turn : tie.Need-slice-aggregate-turn
+slice-aggregate-turn c = search needs
 
+-- src/lib.rt:186:5
+turn-requires : tie.Need-turn-requires
+turn-requires c κs = search needs
+
+-- src/lib.rt:188:21
 array-share-prefix-back : tie.Need-array-share-prefix-back
 array-share-prefix-back c = search needs
 
+-- src/lib.rt:188:21
 slice-aggregate-row-from : tie.Need-slice-aggregate-row-from
 slice-aggregate-row-from c =
-    let s = c .before .before .before .before .before in
-    let t = c .before .turned in
-    sym (length-take-le (length (s .args .arcs .now)) (t .result) (omega (arith, t .ensures .0)))
+    let s = c .before .before .before .before .before .before .before in
+    let t = c .before .before .turn in
+    sym (length-take-le (length (s .args .arcs .now)) (t .last .1 .0) (omega (arith, t .kept .1 .0)))
 
+-- src/lib.rt:188:5
 row-from-requires : tie.Need-row-from-requires
 row-from-requires c κs =
-    let s = c .before .before .before .before .before .before in
-    let t = c .before .before .turned in
-    ((turned-proper (s .args .nodes) (s .args .arcs .now) (t .result) (s .args .marks .now) (omega (arith, t .ensures .0)) (t .ensures .1) (s .pre .0 .0), rw (length-take-le (length (s .args .arcs .now)) (t .result) (omega (arith, t .ensures .0))) (s .pre .0 .1)), s .pre .1)
+    let s = c .before .before .before .before .before .before .before .before in
+    let t = c .before .before .before .turn in
+    ((turned-proper (s .args .nodes) (s .args .arcs .now) (t .last .1 .0) (s .args .marks .now) (omega (arith, t .kept .1 .0)) (t .ensures) (s .pre .0 .0), rw (length-take-le (length (s .args .arcs .now)) (t .last .1 .0) (omega (arith, t .kept .1 .0))) (s .pre .0 .1)), s .pre .1)
 
+-- src/lib.rt:180:1
 same-length : tie.Need-same-length
 same-length c = search needs
 
+-- src/lib.rt:180:1
 returns : tie.Need-returns
 returns c =
-    let s = c .before .before .before .before .before .before .before .before .before in
-    let t = c .before .before .before .before .before .turned in
-    row-to (s .args .nodes) (s .args .arcs .now) (t .result) (s .args .marks .now) (omega (arith, t .ensures .0)) (t .ensures .1) (s .args .cap) (s .args .to)
+    let s = c .before .before .before .before .before .before .before .before .before .before .before in
+    let t = c .before .before .before .before .before .before .turn in
+    row-to (s .args .nodes) (s .args .arcs .now) (t .last .1 .0) (s .args .marks .now) (omega (arith, t .kept .1 .0)) (t .ensures) (s .args .cap) (s .args .to)
     (c .before .before .row-from .last .1 .1 .1 .1 .0) (c .before .before .row-from .ensures)
 
 pub row-to-spec : {M : Type 1} → statement M
 row-to-spec =
     tie.close
     (tie.spec
-    turned-requires
+    slice-aggregate-turn
+    turn-requires
     array-share-prefix-back
     slice-aggregate-row-from
     row-from-requires
