@@ -216,10 +216,7 @@ module _ {n : ℕ} {xs : List ℕ} {to cap : ℕ} {goals starts marks : List ℕ
 
 module _ {n : ℕ} {xs : List ℕ} {to cap : ℕ} {goals starts marks packed : List ℕ} {c : ℕ} {work : List ℕ} (S : Setting n xs to cap goals starts)
     (T : State n xs marks to cap goals starts packed c work) (i : ℕ) where
-  pub opened-proper : Proper (netOf n xs (set marks i 0))
-  opened-proper = set-proper S (set marks i 0) (omega (arith, T .marked, length-set marks i 0))
-
-  pub again-proper : Proper (netOf n xs (set (set marks i 0) i 2))
+  again-proper : Proper (netOf n xs (set (set marks i 0) i 2))
   again-proper = set-proper S (set (set marks i 0) i 2) (omega (arith, T .marked, length-set marks i 0, length-set (set marks i 0) i 2))
 
   pub entries-below : (j : ℕ) → j < length goals → getD work (576 + j) 0 < 64

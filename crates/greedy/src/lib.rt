@@ -113,7 +113,7 @@ fn blocked(
     work: &mut [u32],
 ) -> bool
     requires { ⌜ Setting (o .nodes) (now arcs) (o .to) (o .cap) (now goals) (now starts) ⌝ }
-    requires { ⌜ (o .nodes + arcCount (now arcs) ≤ length (now marks)) × (o .item < o .nodes + arcCount (now arcs)) × (length (now work) ≡ 3648) × Packed (netOf (o .nodes) (now arcs) (now marks)) (now packed) × ((i : ℕ) → i < length (now goals) → getD (now work) (576 + i) 0 < 64) ⌝ }
+    requires { ⌜ (o .nodes + arcCount (now arcs) ≤ length (now marks)) × (o .item < o .nodes + arcCount (now arcs)) × (length (now work) ≡ 3648) × Packed (netOf (o .nodes) (now arcs) (now marks)) (now packed) × ((i : ℕ) → i < length (now goals) → getD (now work) (576 + i) 0 < 64) × (length (now packed) ≤ 1536) ⌝ }
     requires { ⌜ (o .goal ≡ false → (i : ℕ) → i < length (now goals) → getD (now goals) i 0 ≡ o .item → ⊥) ⌝ }
     ensures { λ r. ⌜ ((old : List ℕ) → now (marks .entry) ≡ set old (o .item) 0 → Ready (o .nodes) (now (arcs .entry)) old (o .cap) (now (goals .entry)) (now (starts .entry)) (now (work .entry)) → fitsAt (o .nodes) (now (arcs .entry)) (o .to) (o .cap) (now (goals .entry)) (now (starts .entry)) old ≡ false → Judged (o .nodes) (now (arcs .entry)) (o .to) (o .cap) (now (goals .entry)) (now (starts .entry)) old (now (marks .entry)) (now (work .exit)) r) ⌝ }
 {

@@ -1,12 +1,10 @@
 -- The slip of a taken sheet, from the verdict that the code finds. Assumes nothing.
-use Prim.Native.Nat.{ℕ, zero, suc, _+_, _-_, _≤_, _<_}
-use mathlib.Core.Path.{_≡_, refl, sym, ap, _∙_, subst}
-use mathlib.Core.Bool.{Bool, true, false}
-use mathlib.Core.List.{List, [], _∷_, _++_}
+use Prim.Native.Nat.{ℕ, zero, suc, _≤_}
+use mathlib.Core.Path.{_≡_, refl, sym, ap, _∙_}
+use mathlib.Core.Bool.{true, false}
+use mathlib.Core.List.{List, _∷_}
 use native.Mathlib.Omega.{arith}
-use lib.ListN.{length, getD, take, drop}
-use lib.Dec.{ltb}
-use borrow.Author.Tests.{lt-ltb}
+use lib.ListN.{length, take}
 use Rattle.sections.specs.declared.Header.{Header}
 use Rattle.judge.specs.declared.Verdict.{Verdict}
 use Rattle.varint.specs.Answer.{small}
@@ -14,18 +12,15 @@ use Rattle.judge.proofs.JudgeLaws.{items-are, goals-at, listed-front}
 use Rattle.judge.specs.Ready.{Judged, Whole}
 use Rattle.lengths.specs.Table.{GoalsFit}
 use Rattle.lists.proofs.AscendLaws.{ascends-distinct}
-use Rattle.lists.proofs.Pigeonhole.{Below, below-le}
-use Rattle.lists.proofs.TestLaws.{true-and}
-use Rattle.lists.specs.Lists.{front, every}
+use Rattle.lists.specs.Lists.{front}
 use Rattle.reader.specs.Answer.{sheetOf}
 use Rattle.rows.specs.Net.{netOf}
-use Rattle.sheet.specs.Good.{Good}
 use Rattle.sheet.proofs.SlipLaws.{Small, slip-size, numbers-below}
-use Rattle.sheet.specs.Sheet.{Sheet, required}
+use Rattle.sheet.specs.Sheet.{Sheet}
 use Rattle.sheet.specs.Slip.{Slip, slipNumbers, slipBytes, marksBytes}
 use Rattle.slip.proofs.FormLaws.{small-below}
 use Rattle.slip.specs.Form.{slipFrom}
-use Rattle.verdict.proofs.SlipOfPass.{marks-are, slip-small, Goals, verdict-goals, reasons-count}
+use Rattle.verdict.proofs.SlipOfPass.{marks-are, slip-small, verdict-goals, reasons-count}
 use Rattle.verdict.proofs.VerdictLaws.{refused-goals, verdict-low}
 use Rattle.verdict.specs.Verdict.{fitsSheet, verdict, newMarks, reasonsFor, slipFor, passSlip}
 use Rattle.walks.specs.Graph.{itemCount}

@@ -1,3 +1,5 @@
 pub mod SlipLaws
+pub mod OutcomeLaws
 pub mod PassLaws
 pub mod AnswerLaws
+pub mod Calls

@@ -1,3 +1,5 @@
 pub mod AnswerLaws
 pub mod Demand3
 pub mod Star
+pub mod ItemLaws
+pub mod SaidLaws

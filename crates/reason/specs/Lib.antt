@@ -1,2 +1,3 @@
 pub mod Reason
 pub mod Later
+pub mod Said

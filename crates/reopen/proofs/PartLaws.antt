@@ -20,9 +20,6 @@ row-length work i n h k = length-take-le 64 (drop (i * 64) work) (omega (arith, 
 pub part-length : (work : List ℕ) (i n : ℕ) → n * 64 ≤ length work → i < n → length (take (i * 64 + 64 - i * 64) (drop (i * 64) work)) ≡ 64
 part-length work i n h k = ap length (part-row work i) ∙ row-length work i n h k
 
-pub row-entry : (work : List ℕ) (i v : ℕ) → v < 64 → getD (rowAt work i) v 0 ≡ getD work (i * 64 + v) 0
-row-entry work i v h = getD-take 64 (drop (i * 64) work) v 0 h ∙ getD-drop (i * 64) work v 0
-
 -- any part
 module _ (work : List ℕ) (at n : ℕ) where
   pub part-long : at + n ≤ length work → length (take (at + n - at) (drop at work)) ≡ n

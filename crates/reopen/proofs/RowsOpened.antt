@@ -11,11 +11,10 @@ use Rattle.rows.specs.Net.{Net, netOf, Proper}
 use Rattle.walks.specs.Graph.{closedIn}
 use Rattle.rows.specs.Rows.{rowAt, RowIs, RowsAre, RowsSound, StartsOf}
 use Rattle.rows.proofs.OpenLaws.{sound-opens}
-use Rattle.rows.proofs.WorkLaws.{rows-sound}
+use Rattle.rows.proofs.WorkLaws.{row-entry, rows-sound}
 use Rattle.reopen.specs.Openings.{Untouched, ArcOpened, LinkOf, Opened, Beside, Reopened, ItemOpened}
 use Rattle.walks.proofs.OpenedLaws.{opens}
 use Rattle.reopen.proofs.ArcOpened.{proper-opened, arc-kept}
-use Rattle.reopen.proofs.PartLaws.{row-entry}
 
 -- what lies behind the first n numbers
 pub behind : (n : ℕ) (xs ys : List ℕ) → drop n xs ≡ drop n ys → (j : ℕ) → n ≤ j → getD xs j 0 ≡ getD ys j 0

@@ -5,9 +5,11 @@ ghost use Prim.Native.Nat.{ℕ, _+_, _*_, _≤_, _<_};
 ghost use lib.ListN.{length, getD, take, drop, set};
 ghost use Rattle.walks.specs.Graph.{closedIn};
 ghost use Rattle.rows.specs.Held.{missing};
-ghost use Rattle.rows.specs.Net.{netOf, arcCount, tailIn, headIn, weightIn, Proper, Joins, Packed};
-ghost use Rattle.rows.specs.Rows.{Tried, RowIs, RowsAre, StartsOf, StartsFit};
+ghost use Rattle.rows.specs.Net.{Net, netOf, arcCount, tailIn, headIn, weightIn, Proper, Joins, Packed};
+ghost use Rattle.rows.specs.Rows.{Tried, RowIs, RowsAre, RowsSound, StartsOf, StartsFit};
+ghost use Rattle.spread.specs.Arcs.{Chained};
 ghost use Rattle.reopen.specs.Openings.{Untouched, Unmoved, UnmovedRow, LinkOf, ArcOpened, Opened, Beside, Reopened, ItemOpened};
+use spread::Mend;
 
 // The mark of a forbidden item.
 const FORBIDDEN: u8 = 2;
@@ -190,62 +192,119 @@ pub fn pack_opened(
     rows::pack(nodes, arcs, marks, packed) / 3
 }
 
-// Settles a row again where the opened arc cuts an entry of it.
-fn settle_cut_row(packed: &[u32], marks: &[u8], from: usize, row: &mut [u32], arc: Link, cap: u32)
-    requires { ⌜ Joins 64 (now packed) × (length (now row) ≡ 64) × (from < 64) × (from < length (now marks)) × (cap < missing) ⌝ }
-    requires { ⌜ (arc .tail < 64) × (arc .head < 64) ⌝ }
-    ensures { λ _. ⌜ ((n l : ℕ) (xs old : List ℕ) → ArcOpened n xs old l (now (marks .entry)) (now (packed .entry)) (arc .tail) (arc .head) (arc .weight) → from < n → RowIs (netOf n xs old) cap from (now (row .entry)) → RowIs (netOf n xs (now (marks .entry))) cap from (now (row .exit))) ⌝ }
+// Mends a row where the opened arc cuts an entry of it.
+fn mend_cut_row(m: Mend, arc: Link, packed: &[u32], chains: &[u32], marks: &[u8], row: &mut [u32])
+    requires { ⌜ Joins 64 (now packed) × Chained (arcCount (now packed)) (now chains) ⌝ }
+    requires { ⌜ (length (now row) ≡ 64) × (m .from < 64) × (m .from < length (now marks)) × (m .cap < missing) × (arc .tail < 64) × (arc .head < 64) ⌝ }
+    ensures { λ _. ⌜ ((n l : ℕ) (xs old : List ℕ) → ArcOpened n xs old l (now (marks .entry)) (now (packed .entry)) (arc .tail) (arc .head) (arc .weight) → m .from < n → RowIs (netOf n xs old) (m .cap) (m .from) (now (row .entry)) → RowIs (netOf n xs (now (marks .entry))) (m .cap) (m .from) (now (row .exit))) ⌝ }
 {
-    if cuts(row, arc, cap) {
-        rows::settle_row(packed, marks, from, row, cap);
+    if cuts(row, arc, m.cap) {
+        spread::mend_row(m, packed, chains, marks, row);
     }
 }
 
-// Settles again the rows of which the opened arc cuts an entry.
-fn settle_cut(packed: &[u32], marks: &[u8], starts: &[usize], work: &mut [u32], arc: Link, cap: u32)
-    requires { ⌜ Joins 64 (now packed) × StartsFit (now marks) (now starts) (now work) × (cap < missing) × (arc .tail < 64) × (arc .head < 64) ⌝ }
+// Mends the rows of which the opened arc cuts an entry.
+fn mend_cut(packed: &[u32], marks: &[u8], starts: &[usize], work: &mut [u32], arc: Link, cap: u32)
+    requires { ⌜ Joins 64 (now packed) × StartsFit (now marks) (now starts) (now work) × (cap < missing) × (arc .tail < 64) × (arc .head < 64) × (length (now packed) ≤ 1536) ⌝ }
     ensures { λ _. ⌜ ((n l : ℕ) (xs old : List ℕ) → ArcOpened n xs old l (now (marks .entry)) (now (packed .entry)) (arc .tail) (arc .head) (arc .weight) → ((i : ℕ) → i < length (now (starts .entry)) → getD (now (starts .entry)) i 0 < n) → RowsAre (netOf n xs old) cap (now (starts .entry)) (length (now (starts .entry))) (now (work .entry)) → RowsAre (netOf n xs (now (marks .entry))) cap (now (starts .entry)) (length (now (starts .entry))) (now (work .exit))) ⌝ }
     ensures { λ _. ⌜ drop (length (now (starts .entry)) * 64) (now (work .exit)) ≡ drop (length (now (starts .entry)) * 64) (now (work .entry)) ⌝ }
 {
+    let chains = spread::chained(packed);
     let mut i = 0;
     while i < starts.len() {
         let at = i * ROW_LENGTH;
+        let m = Mend {
+            from: starts[i],
+            active: 1u64 << arc.tail,
+            cap,
+        };
         let link = Link {
             tail: arc.tail,
             head: arc.head,
             weight: arc.weight,
         };
-        settle_cut_row(
-            packed,
-            marks,
-            starts[i],
-            &mut work[at..at + ROW_LENGTH],
+        mend_cut_row(
+            m,
             link,
-            cap,
+            packed,
+            &chains,
+            marks,
+            &mut work[at..at + ROW_LENGTH],
         );
         i += 1;
     }
 }
 
-// Keeps the rows and settles them again, once a node is opened.
-fn open_node(packed: &[u32], marks: &[u8], starts: &[usize], work: &mut [u32], cap: u32)
+// Mends every row, with the arcs of the active nodes tried first.
+fn mend_rows(
+    packed: &[u32],
+    marks: &[u8],
+    starts: &[usize],
+    work: &mut [u32],
+    active: u64,
+    cap: u32,
+)
+    requires { ⌜ Joins 64 (now packed) × StartsFit (now marks) (now starts) (now work) × (cap < missing) × (length (now packed) ≤ 1536) ⌝ }
+    ensures { λ _. ⌜ ((N : Net) → StartsOf N (now (packed .entry)) (now (marks .entry)) (now (starts .entry)) → RowsSound N cap (now (starts .entry)) (now (work .entry)) → RowsAre N cap (now (starts .entry)) (length (now (starts .entry))) (now (work .exit))) ⌝ }
+    ensures { λ _. ⌜ drop (length (now (starts .entry)) * 64) (now (work .exit)) ≡ drop (length (now (starts .entry)) * 64) (now (work .entry)) ⌝ }
+{
+    let chains = spread::chained(packed);
+    let mut i = 0;
+    while i < starts.len() {
+        let at = i * ROW_LENGTH;
+        let m = Mend {
+            from: starts[i],
+            active,
+            cap,
+        };
+        spread::mend_row(m, packed, &chains, marks, &mut work[at..at + ROW_LENGTH]);
+        i += 1;
+    }
+}
+
+// The nodes whose arcs are worth trying first once a node is opened: itself, and where the arcs that enter it come from. Any set does.
+fn entering(packed: &[u32], node: usize) -> u64
+    requires { ⌜ Joins 64 (now packed) × (node < 64) ⌝ }
+{
+    let m = packed.len() / 3;
+    let mut active = 1u64 << node;
+    let mut i = 0;
+    while i < m {
+        if packed[i * 3 + 1] as usize == node {
+            active = active | 1u64 << packed[i * 3];
+        }
+        i += 1;
+    }
+    active
+}
+
+// Keeps the rows and mends them, once a node is opened.
+fn open_node(
+    packed: &[u32],
+    marks: &[u8],
+    starts: &[usize],
+    work: &mut [u32],
+    node: usize,
+    cap: u32,
+)
     requires { ⌜ Joins 64 (now packed) × StartsFit (now marks) (now starts) (now work) × (cap < missing) × (length (now starts) ≤ 9) × (length (now work) ≡ 3648) ⌝ }
+    requires { ⌜ (node < 64) × (length (now packed) ≤ 1536) ⌝ }
     ensures { λ _. ⌜ ((n i : ℕ) (xs old : List ℕ) → Opened n xs old i (now (marks .entry)) (now (packed .entry)) (now (starts .entry)) → RowsAre (netOf n xs old) cap (now (starts .entry)) (length (now (starts .entry))) (now (work .entry)) → Reopened n xs old (now (marks .entry)) cap (now (starts .entry)) (now (work .exit))) ⌝ }
     ensures { λ _. ⌜ Beside (now (starts .entry)) (now (work .entry)) (now (work .exit)) ⌝ }
 {
     save(work, starts.len() * ROW_LENGTH);
-    rows::settle_rows(packed, marks, starts, work, cap);
+    mend_rows(packed, marks, starts, work, entering(packed, node), cap);
 }
 
 // The same once an arc is opened.
 fn open_arc(packed: &[u32], marks: &[u8], starts: &[usize], work: &mut [u32], arc: Link, cap: u32)
     requires { ⌜ Joins 64 (now packed) × StartsFit (now marks) (now starts) (now work) × (cap < missing) × (length (now starts) ≤ 9) × (length (now work) ≡ 3648) ⌝ }
-    requires { ⌜ (arc .tail < 64) × (arc .head < 64) ⌝ }
+    requires { ⌜ (arc .tail < 64) × (arc .head < 64) × (length (now packed) ≤ 1536) ⌝ }
     ensures { λ _. ⌜ ((n l : ℕ) (xs old : List ℕ) → Opened n xs old (n + l) (now (marks .entry)) (now (packed .entry)) (now (starts .entry)) → LinkOf xs l (arc .tail) (arc .head) (arc .weight) → RowsAre (netOf n xs old) cap (now (starts .entry)) (length (now (starts .entry))) (now (work .entry)) → Reopened n xs old (now (marks .entry)) cap (now (starts .entry)) (now (work .exit))) ⌝ }
     ensures { λ _. ⌜ Beside (now (starts .entry)) (now (work .entry)) (now (work .exit)) ⌝ }
 {
     save(work, starts.len() * ROW_LENGTH);
-    settle_cut(packed, marks, starts, work, arc, cap);
+    mend_cut(packed, marks, starts, work, arc, cap);
 }
 
 // Whether opening the arc leaves every row as it is: its head is closed, or it can cut no entry.
@@ -282,14 +341,14 @@ pub fn open_item(
     work: &mut [u32],
 ) -> bool
     requires { ⌜ Proper (netOf (o .nodes) (now arcs) (now marks)) × (o .item < o .nodes + arcCount (now arcs)) ⌝ }
-    requires { ⌜ Joins 64 (now packed) × StartsFit (now marks) (now starts) (now work) × (o .cap < missing) × (length (now starts) ≤ 9) × (length (now work) ≡ 3648) ⌝ }
+    requires { ⌜ Joins 64 (now packed) × StartsFit (now marks) (now starts) (now work) × (o .cap < missing) × (length (now starts) ≤ 9) × (length (now work) ≡ 3648) × (length (now packed) ≤ 1536) ⌝ }
     ensures { λ r. ⌜ ItemOpened (o .nodes) (now (arcs .entry)) (o .item) (o .cap) (o .goal) (now (marks .entry)) (now (packed .entry)) (now (starts .entry)) (now (work .entry)) (now (work .exit)) r ⌝ }
 {
     let nodes = o.nodes;
     let item = o.item;
     let cap = o.cap;
     if item < nodes {
-        open_node(packed, marks, starts, work, cap);
+        open_node(packed, marks, starts, work, item, cap);
         return true;
     }
     if o.goal {

@@ -126,13 +126,13 @@ pub swept-quiet : {cap : ℕ} {xs d e : List ℕ} {i j : ℕ} {r : Bool} → Swe
 swept-quiet (quiet t) q = t
 swept-quiet (less t) q = let z : _≡_ {A = ℕ} 0 1 = cc in absurd (omega arith)
 
--- up, and down where that changed anything
-pub round-down : {cap : ℕ} {xs d e f : List ℕ} {i j n : ℕ} {r q : Bool} → Swept cap xs d i j e r → r ≡ true → n ≡ arcCount xs → Swept cap xs e 0 n f q → Round cap xs d f q
-round-down U t z (quiet s) = record { fallen = λ q. let z : _≡_ {A = ℕ} 0 1 = cc in absurd (omega arith); settled = λ _. rw z at s }
-round-down U t z (less s) = record { fallen = λ _. omega (arith, swept-less U t); settled = λ q. let z : _≡_ {A = ℕ} 0 1 = cc in absurd (omega arith) }
+-- a sweep, and another where that changed anything
+pub round-more : {cap : ℕ} {xs d e f : List ℕ} {i j n : ℕ} {r q : Bool} → Swept cap xs d i j e r → r ≡ true → n ≡ arcCount xs → Swept cap xs e 0 n f q → Round cap xs d f q
+round-more U t z (quiet s) = record { fallen = λ q. let z : _≡_ {A = ℕ} 0 1 = cc in absurd (omega arith); settled = λ _. rw z at s }
+round-more U t z (less s) = record { fallen = λ _. omega (arith, swept-less U t); settled = λ q. let z : _≡_ {A = ℕ} 0 1 = cc in absurd (omega arith) }
 
-pub round-up : {cap : ℕ} {xs d e : List ℕ} {n : ℕ} {r : Bool} → Swept cap xs d 0 n e r → r ≡ false → n ≡ arcCount xs → Round cap xs d e false
-round-up U t z = record { fallen = λ q. let z : _≡_ {A = ℕ} 0 1 = cc in absurd (omega arith); settled = λ _. rw z at (swept-quiet U t) }
+pub round-done : {cap : ℕ} {xs d e : List ℕ} {n : ℕ} {r : Bool} → Swept cap xs d 0 n e r → r ≡ false → n ≡ arcCount xs → Round cap xs d e false
+round-done U t z = record { fallen = λ q. let z : _≡_ {A = ℕ} 0 1 = cc in absurd (omega arith); settled = λ _. rw z at (swept-quiet U t) }
 
 -- no walk on from a is shorter than the entry of its end
 module _ (N : Net) (cap : ℕ) (xs d : List ℕ) (P : Packed N xs) (t : Settled cap xs 0 (arcCount xs) d) where

@@ -1,15 +1,11 @@
 ghost use mathlib.Core.Path.{_≡_};
 ghost use Prim.Native.Nat.{_+_, _*_, _≤_, _<_};
-ghost use lib.ListN.{length, take, drop};
-ghost use Rattle.rows.specs.Held.{missing};
-ghost use Rattle.rows.specs.Net.{Net, netOf, arcCount, Proper, Joins, PackedTo, Packed};
-ghost use Rattle.rows.specs.Rows.{RowIs, Sound, Relaxed, ArcTried, Swept, Round, Settled, Keeps, Started, StartOf, StartsOf, StartsFit, RowsAre, RowsSound};
+ghost use lib.ListN.{length, take};
+ghost use Rattle.rows.specs.Net.{netOf, arcCount, Proper, Joins, PackedTo, Packed};
+ghost use Rattle.rows.specs.Rows.{Relaxed, ArcTried, Swept, Round, Settled, Keeps, Started};
 
 // The mark of a forbidden item.
 const FORBIDDEN: u8 = 2;
-
-// The numbers of a row, one for each node.
-const ROW_LENGTH: usize = 64;
 
 // Puts arc `i` behind the `c` arcs that are packed, where it and its head are open.
 fn pack_arc(
@@ -119,14 +115,15 @@ fn sweep_down(arcs: &[u32], row: &mut [u32], cap: u32) -> bool
     changed
 }
 
-// Tries each arc once upwards and, where that changed anything, once downwards, so that a chain of arcs in either order takes one turn.
+// Tries each arc once downwards and, where that changed anything, once upwards, so that a chain of arcs in either order takes one turn.
+// Downwards first, since an arc that was opened is put behind the others.
 fn sweep(arcs: &[u32], row: &mut [u32], cap: u32) -> bool
     requires { ⌜ Joins 64 (now arcs) × (length (now row) ≡ 64) ⌝ }
     ensures { λ _. ⌜ Keeps cap (now (arcs .entry)) (now (row .entry)) (now (row .exit)) ⌝ }
     ensures { λ r. ⌜ Round cap (now (arcs .entry)) (now (row .entry)) (now (row .exit)) r ⌝ }
 {
-    if sweep_up(arcs, row, cap) {
-        return sweep_down(arcs, row, cap);
+    if sweep_down(arcs, row, cap) {
+        return sweep_up(arcs, row, cap);
     }
     false
 }
@@ -147,29 +144,5 @@ pub fn start(marks: &[u8], from: usize, row: &mut [u32])
 {
     if marks[from] != FORBIDDEN {
         row[from] = 0;
-    }
-}
-
-// Leaves in `row` the least length from `from` to each node over the packed arcs; MISSING above `cap`.
-// The row comes in sound: each entry MISSING or the length of such a walk. So is a row made when more items were forbidden.
-pub fn settle_row(arcs: &[u32], marks: &[u8], from: usize, row: &mut [u32], cap: u32)
-    requires { ⌜ Joins 64 (now arcs) × (length (now row) ≡ 64) × (from < 64) × (from < length (now marks)) × (cap < missing) ⌝ }
-    ensures { λ _. ⌜ ((N : Net) → StartOf N (now (arcs .entry)) (now (marks .entry)) from → Sound N cap from (now (row .entry)) → RowIs N cap from (now (row .exit))) ⌝ }
-{
-    start(marks, from, row);
-    settle(arcs, row, cap);
-}
-
-// Settles the row of each start again, as `settle_row` does. Row `i` has the 64 numbers of the work from `i * 64` on.
-pub fn settle_rows(arcs: &[u32], marks: &[u8], starts: &[usize], work: &mut [u32], cap: u32)
-    requires { ⌜ Joins 64 (now arcs) × StartsFit (now marks) (now starts) (now work) × (cap < missing) ⌝ }
-    ensures { λ _. ⌜ ((N : Net) → StartsOf N (now (arcs .entry)) (now (marks .entry)) (now (starts .entry)) → RowsSound N cap (now (starts .entry)) (now (work .entry)) → RowsAre N cap (now (starts .entry)) (length (now (starts .entry))) (now (work .exit))) ⌝ }
-    ensures { λ _. ⌜ drop (length (now (starts .entry)) * 64) (now (work .exit)) ≡ drop (length (now (starts .entry)) * 64) (now (work .entry)) ⌝ }
-{
-    let mut i = 0;
-    while i < starts.len() {
-        let at = i * ROW_LENGTH;
-        settle_row(arcs, marks, starts[i], &mut work[at..at + ROW_LENGTH], cap);
-        i += 1;
     }
 }

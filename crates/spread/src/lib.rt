@@ -3,7 +3,7 @@ ghost use Prim.Native.Nat.{ℕ, _*_, _≤_, _<_};
 ghost use lib.ListN.{length, replicate, drop};
 ghost use Rattle.rows.specs.Held.{missing};
 ghost use Rattle.rows.specs.Net.{Net, netOf, arcCount, Proper, Joins};
-ghost use Rattle.rows.specs.Rows.{RowIs, RowTo, Keeps, StartOf, StartsOf, StartsFit, RowsAre};
+ghost use Rattle.rows.specs.Rows.{RowIs, RowTo, Sound, Keeps, StartOf, StartsOf, StartsFit, RowsAre};
 ghost use Rattle.spread.specs.Arcs.{Chained, TurnedTo};
 
 // What a row holds where there is no way of at most the cap.
@@ -30,7 +30,7 @@ fn fill(row: &mut [u32], v: u32)
 }
 
 // Chains the arcs by their tails: number `u` leads to the last arc that leaves node `u`, number 64 + `i` from arc `i` to the one before it.
-fn chained(arcs: &[u32]) -> [u32; CHAIN_NUMBERS]
+pub fn chained(arcs: &[u32]) -> [u32; CHAIN_NUMBERS]
     requires { ⌜ Joins 64 (now arcs) × (length (now arcs) ≤ 1536) ⌝ }
     ensures { λ r. ⌜ Chained (arcCount (now (arcs .entry))) r ⌝ }
 {
@@ -96,13 +96,13 @@ fn spread_all(arcs: &[u32], chains: &[u32], row: &mut [u32], active: u64, cap: u
     left
 }
 
-// Tries the arcs outward from `from`, those of a node again where its entry was cut. This alone settles a row but in rare graphs, and `settle`
-// makes sure: it costs one sweep then, where sweeps alone may take one for each node.
-fn spread_from(arcs: &[u32], chains: &[u32], row: &mut [u32], from: usize, cap: u32)
-    requires { ⌜ Joins 64 (now arcs) × Chained (arcCount (now arcs)) (now chains) × (length (now row) ≡ 64) × (from < 64) ⌝ }
+// Tries the arcs outward from the active nodes, those of a node again where its entry was cut. This alone settles a row but in rare graphs, and
+// `settle` makes sure: it costs one sweep then, where sweeps alone may take one for each node.
+fn spread_active(arcs: &[u32], chains: &[u32], row: &mut [u32], active: u64, cap: u32)
+    requires { ⌜ Joins 64 (now arcs) × Chained (arcCount (now arcs)) (now chains) × (length (now row) ≡ 64) ⌝ }
     ensures { λ _. ⌜ Keeps cap (now (arcs .entry)) (now (row .entry)) (now (row .exit)) ⌝ }
 {
-    let mut left = 1u64 << from;
+    let mut left = active;
     let mut turn = 0;
     while turn < ROW_LENGTH {
         if left == 0 {
@@ -113,16 +113,39 @@ fn spread_from(arcs: &[u32], chains: &[u32], row: &mut [u32], from: usize, cap: 
     }
 }
 
-// Leaves in `row` the least length from `from` to each node over the packed arcs, whatever it held; MISSING above `cap`.
+// A row that starts at `from`, with the nodes whose arcs are to be tried first, one bit each, and the cap.
+pub struct Mend {
+    pub from: usize,
+    pub active: u64,
+    pub cap: u32,
+}
+
+// Leaves in `row` the least length from the start to each node over the packed arcs; MISSING above the cap. The row comes in sound: each entry
+// MISSING or the length of such a walk. So is a row made when more items were forbidden.
+pub fn mend_row(m: Mend, arcs: &[u32], chains: &[u32], marks: &[u8], row: &mut [u32])
+    requires { ⌜ Joins 64 (now arcs) × Chained (arcCount (now arcs)) (now chains) ⌝ }
+    requires { ⌜ (length (now row) ≡ 64) × (m .from < 64) × (m .from < length (now marks)) × (m .cap < missing) ⌝ }
+    ensures { λ _. ⌜ ((N : Net) → StartOf N (now (arcs .entry)) (now (marks .entry)) (m .from) → Sound N (m .cap) (m .from) (now (row .entry)) → RowIs N (m .cap) (m .from) (now (row .exit))) ⌝ }
+{
+    let cap = m.cap;
+    rows::start(marks, m.from, row);
+    spread_active(arcs, chains, row, m.active, cap);
+    rows::settle(arcs, row, cap);
+}
+
+// The same whatever the row held.
 fn fill_row(arcs: &[u32], chains: &[u32], marks: &[u8], from: usize, row: &mut [u32], cap: u32)
     requires { ⌜ Joins 64 (now arcs) × Chained (arcCount (now arcs)) (now chains) ⌝ }
     requires { ⌜ (length (now row) ≡ 64) × (from < 64) × (from < length (now marks)) × (cap < missing) ⌝ }
     ensures { λ _. ⌜ ((N : Net) → StartOf N (now (arcs .entry)) (now (marks .entry)) from → RowIs N cap from (now (row .exit))) ⌝ }
 {
     fill(row, MISSING);
-    rows::start(marks, from, row);
-    spread_from(arcs, chains, row, from, cap);
-    rows::settle(arcs, row, cap);
+    let m = Mend {
+        from,
+        active: 1u64 << from,
+        cap,
+    };
+    mend_row(m, arcs, chains, marks, row);
 }
 
 // Leaves in `row` the least length from `from` to each node, clear of the forbidden items; MISSING above `cap`.

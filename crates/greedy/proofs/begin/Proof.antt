@@ -1,4 +1,4 @@
--- `greedy::begin` meets its contract. Assumes nothing.
+-- `greedy::begin` meets its contract: the rows start at the source and where each goal is left, over the open arcs. Assumes nothing.
 use mathlib.Core.Path.{sym, _∙_}
 use native.Mathlib.Omega.{arith}
 use lib.ListN.{take}

@@ -1,4 +1,4 @@
--- `greedy::blocked` meets its contract. Assumes nothing.
+-- `greedy::blocked` meets its contract: the three ways to the answer are those of TurnLaws: no row is another, no entry that matters is another, or the table is asked. Assumes nothing.
 use Prim.Native.Nat.{_+_}
 use mathlib.Core.Path.{_∙_}
 use native.Mathlib.Omega.{arith}
@@ -22,6 +22,7 @@ open-item-requires c κs =
         s .pre .0 .small,
         omega (arith, s .pre .0 .counted, s .pre .0 .eight),
         s .pre .1 .0 .2,
+        s .pre .1 .0 .5,
       ),
     )
 

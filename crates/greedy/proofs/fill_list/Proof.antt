@@ -1,4 +1,4 @@
--- `greedy::fill_list` meets its contract. Assumes nothing.
+-- `greedy::fill_list` meets its contract: the loop's invariant, `Going`: what is listed so far, put before the greedy list of the rest, is the whole. Assumes nothing.
 use Prim.Native.Nat.{_+_, _-_, _≤_}
 use mathlib.Core.Path.{_≡_, refl, sym, _∙_}
 use native.Mathlib.Omega.{arith}

@@ -1,4 +1,4 @@
--- `greedy::fits_limit` meets its contract. Assumes nothing.
+-- `greedy::fits_limit` meets its contract: the table over the rows gives the least length up to the limit, and it is at most the limit exactly where a walk fits. Assumes nothing.
 use Prim.Native.Nat.{ℕ}
 use mathlib.Core.Path.{refl, sym, ap, _∙_}
 use native.Mathlib.Omega.{arith}

@@ -1,4 +1,4 @@
--- `greedy::judge` meets its contract. Assumes nothing.
+-- `greedy::judge` meets its contract: where a walk fits the kept rows are put back, and else the work stays as the table left it. Assumes nothing.
 use Prim.Native.Nat.{_+_}
 use mathlib.Core.Path.{_∙_}
 use mathlib.Core.Bool.{true≢false, false≢true}

@@ -1,4 +1,4 @@
--- `greedy::put_down` meets its contract. Assumes nothing.
+-- `greedy::put_down` meets its contract: the number is stored where the item is listed. Assumes nothing.
 use mathlib.Core.Path.{refl, sym, _∙_}
 use mathlib.Core.Bool.{true≢false, false≢true}
 use borrow.Author.Needs.{needs}

@@ -1,13 +1,14 @@
--- `greedy::take_turn` meets its contract. Assumes nothing.
+-- `greedy::take_turn` meets its contract: an open item is passed, a closed one is opened, and where a walk fits then the marks, the arcs and the rows are as before. Assumes nothing.
 use Prim.Native.Nat.{_*_}
 use mathlib.Core.Path.{_≡_, refl, sym, _∙_}
 use native.Mathlib.Omega.{arith}
 use borrow.Author.Needs.{needs}
+use lib.ListN.{length-set}
 use lib.Seq.{length-take-le}
 use borrow.Author.Tests.{eq-eqb, ne-eqb}
 use Rattle.walks.specs.Graph.{closedIn}
 use mathlib.Core.Bool.{true}
-use Rattle.greedy.proofs.TurnLaws.{set-goals, opened-proper, again-proper, entries-below, turn-passed, turn-opened, turn-listed, state-opened, state-listed}
+use Rattle.greedy.proofs.TurnLaws.{set-proper, set-goals, entries-below, turn-passed, turn-opened, turn-listed, state-opened, state-listed}
 use Rattle.greedy.proofs.take_turn.Statement.{statement}
 use Rattle.greedy.proofs.take_turn.Tie as tie
 
@@ -21,7 +22,7 @@ slice-write-marks : tie.Need-slice-write-marks
 slice-write-marks c = search needs
 
 pack-opened-requires : tie.Need-pack-opened-requires
-pack-opened-requires c κs = let s = c .before .before .before .before .before .before .before .before .before .before in (opened-proper (s .pre .0 .0) (s .pre .1) (s .args .t .item), s .pre .0 .2, omega (arith, s .pre .0 .1, s .pre .1 .wide), omega (arith, s .pre .1 .room, s .pre .1 .wide))
+pack-opened-requires c κs = let s = c .before .before .before .before .before .before .before .before .before .before in (set-proper (s .pre .0 .0) _ (simp length-set (s .pre .1 .marked)), s .pre .0 .2, omega (arith, s .pre .0 .1, s .pre .1 .wide), omega (arith, s .pre .1 .room, s .pre .1 .wide))
 
 mul-n : tie.Need-mul-n
 mul-n c = search needs
@@ -42,11 +43,12 @@ blocked-requires c κs =
       s .pre .0 .0,
       (
         (
-          opened-proper (s .pre .0 .0) (s .pre .1) (s .args .t .item) .marked,
+          simp length-set (s .pre .1 .marked),
           s .pre .0 .2,
           s .pre .1 .long,
           t .ensures .1 (s .args .marks .now) refl (s .pre .1 .arcs),
           entries-below (s .pre .0 .0) (s .pre .1) (s .args .t .item),
+          omega (arith, t .ensures .0, s .pre .1 .wide, t .kept .1 .1 .1 .0, length-take-le (t .result * 3) (t .last .1 .1 .1 .0) (omega (arith, t .ensures .0, t .kept .1 .1 .1 .0))),
         ),
         c .before .before .before .is-goal .ensures,
       ),
@@ -70,13 +72,13 @@ returns-2 c =
     (turn-opened p J, state-opened (s .pre .0 .0) (s .pre .1) (s .args .t .item) (t .kept .1 .1 .1 .0) (c .before .before .before .blocked .kept .1 .1 .1 .1 .1 .1 .0) (t .ensures .0) (t .ensures .1 (s .args .marks .now) refl (s .pre .1 .arcs)) J)
 
 slice-write-marks-2 : tie.Need-slice-write-marks-2
-slice-write-marks-2 c = let s = c .before .before .before .before .before .before .before .before .before .before .before .before .before .before .before .before .before .before .before .before .before in omega (arith, opened-proper (s .pre .0 .0) (s .pre .1) (s .args .t .item) .marked, s .pre .0 .2)
+slice-write-marks-2 c = let s = c .before .before .before .before .before .before .before .before .before .before .before .before .before .before .before .before .before .before .before .before .before in simp length-set (omega (arith, s .pre .1 .marked, s .pre .0 .2))
 
 note-goals-requires : tie.Need-note-goals-requires
-note-goals-requires c κs = let s = c .before .before .before .before .before .before .before .before .before .before .before .before .before .before .before .before .before .before .before .before .before .before .before in (again-proper (s .pre .0 .0) (s .pre .1) (s .args .t .item), set-goals (s .pre .0 .0) _, omega (arith, s .pre .1 .long, c .before .before .before .before .before .blocked .kept .1 .1 .1 .1 .1 .1 .0))
+note-goals-requires c κs = let s = c .before .before .before .before .before .before .before .before .before .before .before .before .before .before .before .before .before .before .before .before .before .before .before in (set-proper (s .pre .0 .0) _ (simp length-set (s .pre .1 .marked)), set-goals (s .pre .0 .0) _, omega (arith, s .pre .1 .long, c .before .before .before .before .before .blocked .kept .1 .1 .1 .1 .1 .1 .0))
 
 pack-requires : tie.Need-pack-requires
-pack-requires c κs = let s = c .before .before .before .before .before .before .before .before .before .before .before .before .before .before .before .before .before .before .before .before .before .before .before .before .before .before .before .before in (again-proper (s .pre .0 .0) (s .pre .1) (s .args .t .item), omega (arith, s .pre .0 .1, s .pre .1 .wide, c .before .before .before .before .before .before .before .before .before .before .before .before .before .before .before .before .before .pack-opened .kept .1 .1 .1 .0))
+pack-requires c κs = let s = c .before .before .before .before .before .before .before .before .before .before .before .before .before .before .before .before .before .before .before .before .before .before .before .before .before .before .before .before in (set-proper (s .pre .0 .0) _ (simp length-set (s .pre .1 .marked)), omega (arith, s .pre .0 .1, s .pre .1 .wide, c .before .before .before .before .before .before .before .before .before .before .before .before .before .before .before .before .before .pack-opened .kept .1 .1 .1 .0))
 
 same-length-4 : tie.Need-same-length-4
 same-length-4 c = search needs

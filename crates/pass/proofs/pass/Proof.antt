@@ -1,14 +1,14 @@
 -- `pass::pass` meets its contract, case by case. Assumes nothing.
-use Prim.Native.Nat.{_+_, _*_}
 use mathlib.Core.Path.{sym, ap, _∙_}
 use mathlib.Core.List.{[]}
-use lib.ListN.{take}
 use Rattle.varint.specs.Varint.{got}
 use Rattle.sheet.specs.Sheet.{Sheet}
-use Rattle.reader.specs.Answer.{sheetOf}
+use Rattle.sheet.proofs.RefusalLaws.{taken-refuses}
+use Rattle.verdict.specs.Pass.{passOn, passed}
 use native.Mathlib.Omega.{arith}
 use Rattle.judge.proofs.LoadedLaws.{loaded, unloaded}
-use Rattle.pass.proofs.PassLaws.{short-work, short-slip, bad-sheet, good-sheet}
+use Rattle.pass.proofs.OutcomeLaws.{short-work, short-slip, early, done}
+use Rattle.pass.proofs.PassLaws.{bad-sheet, good-sheet}
 use borrow.Author.Needs.{needs}
 use Rattle.pass.proofs.pass.Statement.{statement}
 use Rattle.pass.proofs.pass.Tie as tie
@@ -20,11 +20,13 @@ use Rattle.reader.proofs.read.Reads as read-reads
 
 -- src/lib.rt:92:9
 returns : tie.Need-returns
-returns c = let s = c .before .before .before .before in short-work (s .args .sheet .now) (s .args .work .now) (s .args .slip .now) (c .if1 .taken)
+unfolding passed
+returns c = let s = c .before .before .before .before in short-work (passOn (s .args .sheet .now)) (s .args .work .now) (s .args .slip .now) (c .if1 .taken)
 
 -- src/lib.rt:95:9
 returns-2 : tie.Need-returns-2
-returns-2 c = let s = c .before .before .before .before .before in short-slip (s .args .sheet .now) (s .args .work .now) (s .args .slip .now) (c .before .if1 .left) (c .if2 .taken)
+unfolding passed
+returns-2 c = let s = c .before .before .before .before .before in short-slip (passOn (s .args .sheet .now)) (s .args .work .now) (s .args .slip .now) (c .before .if1 .left) (c .if2 .taken)
 
 -- src/lib.rt:99:44
 slice-aggregate-read : tie.Need-slice-aggregate-read
@@ -48,10 +50,11 @@ enum-known-why c = search needs
 
 -- src/lib.rt:101:36
 returns-3 : tie.Need-returns-3
+unfolding passed
 returns-3 c =
     let s = c .before .before .before .before .before .before .before .before .before .before .before .before .before in
-    let r = c .before .before .before .before .before .read in
-    bad-sheet (s .args .sheet .now) (s .args .work .now) (s .args .slip .now) (c .before .before .before .before .before .before .before .before .before .if1 .left) (c .before .before .before .before .before .before .before .before .if2 .left) _ (unloaded (s .args .sheet .now) _ (sym (c .before .why .given .1) ∙ r .ensures .0))
+    let u = unloaded (s .args .sheet .now) _ (sym (c .before .why .given .1) ∙ c .before .before .before .before .before .read .ensures .0) in
+    early (passOn (s .args .sheet .now)) (s .args .work .now) (s .args .slip .now) (c .before .before .before .before .before .before .before .before .before .if1 .left) (c .before .before .before .before .before .before .before .before .if2 .left) _ (bad-sheet (s .args .sheet .now) _ u) (taken-refuses (s .args .sheet .now) _ u .1)
 
 -- src/lib.rt:103:19
 mul-numbers : tie.Need-mul-numbers
@@ -95,12 +98,13 @@ same-length-2 c = search needs
 
 -- src/lib.rt:88:1
 returns-4 : tie.Need-returns-4
+unfolding passed
 returns-4 c =
     let s = c .before .before .before .before .before .before .before .before .before .before .before .before .before .before .before .before .before .before .before .before .before .before .before .before .before .before .before .before in
     let L = loaded (c .before .before .before .before .before .before .before .before .before .before .before .before .before .before .before .before .before .before .before .before .before .before .before .before .before .before .before .before .args .sheet .now) _ _ (c .before .before .before .before .before .before .before .before .before .before .before .before .before .before .before .before .before .before .before .before .read .last .1 .0) (c .before .before .before .before .before .before .before .before .before .before .before .before .before .before .before .before .before .before .before .before .read .last .1 .1 .0) (c .before .before .before .before .before .before .before .before .before .before .before .before .before .before .before .before .header .given .0 .0) (sym (c .before .before .before .before .before .before .before .before .before .before .before .before .before .before .before .before .header .given .1) ∙ c .before .before .before .before .before .before .before .before .before .before .before .before .before .before .before .before .before .before .before .before .read .ensures .0) (c .before .before .before .before .before .before .before .before .before .before .before .before .before .before .before .before .before .before .before .before .read .ensures .1 .0) (c .before .before .before .before .before .before .before .before .before .before .before .before .before .before .before .before .before .before .before .before .read .ensures .1 .1) in
     let w = c .before .before .before .before .before .before .before .before .write-answer in
-    good-sheet (s .args .sheet .now) (s .args .work .now) (s .args .slip .now) (c .before .before .before .before .before .before .before .before .before .before .before .before .before .before .before .before .before .before .before .before .before .before .before .before .if1 .left) (c .before .before .before .before .before .before .before .before .before .before .before .before .before .before .before .before .before .before .before .before .before .before .before .if2 .left) (sheetOf (c .before .before .before .before .before .before .before .before .before .before .before .before .before .before .before .before .header .given .0 .0) (take (3 * c .before .before .before .before .before .before .before .before .before .before .before .before .before .before .before .before .header .given .0 .0 .arcs) (c .before .before .before .before .before .before .before .before .before .before .before .before .before .before .before .before .before .before .before .before .read .last .1 .0)) (take (c .before .before .before .before .before .before .before .before .before .before .before .before .before .before .before .before .header .given .0 .0 .nodes + c .before .before .before .before .before .before .before .before .before .before .before .before .before .before .before .before .header .given .0 .0 .arcs) (c .before .before .before .before .before .before .before .before .before .before .before .before .before .before .before .before .before .before .before .before .read .last .1 .1 .0)))
-    (w .result) (w .last .1 .1 .1 .0) (c .before .before .zero .last .0) (w .last .1 .1 .1 .1 .0) (L .took ∙ ap (λ (S : Sheet). got S []) (sym (L .same))) (w .ensures .0) (w .ensures .1 .1) (c .before .before .zero .ensures) (w .ensures .1 .0)
+    done (passOn (s .args .sheet .now)) (s .args .work .now) (s .args .slip .now) (c .before .before .before .before .before .before .before .before .before .before .before .before .before .before .before .before .before .before .before .before .before .before .before .before .if1 .left) (c .before .before .before .before .before .before .before .before .before .before .before .before .before .before .before .before .before .before .before .before .before .before .before .if2 .left) _ (w .result) (w .last .1 .1 .1 .0) (c .before .before .zero .last .0) (w .last .1 .1 .1 .1 .0)
+    (good-sheet (s .args .sheet .now) _ (L .took ∙ ap (λ (S : Sheet). got S []) (sym (L .same)))) (w .ensures .0) (w .ensures .1 .1) (c .before .before .zero .ensures) (w .ensures .1 .0)
 
 pub pass-spec : {M : Type 1} → statement M
 pass-spec =

@@ -1,4 +1,4 @@
--- `reopen::add_arc` meets its contract. Assumes nothing.
+-- `reopen::add_arc` meets its contract: an arc that is opened is among the open arcs where its head is open, so it is put behind them, and else they are as they were. Assumes nothing.
 use native.Mathlib.Omega.{arith}
 use borrow.Author.Needs.{needs}
 use lib.ListN.{length-set}

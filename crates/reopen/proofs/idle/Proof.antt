@@ -1,4 +1,4 @@
--- `reopen::idle` meets its contract. Assumes nothing.
+-- `reopen::idle` meets its contract: an arc whose head is closed, or that can cut no entry, is the arc of no shorter walk. Assumes nothing.
 use mathlib.Core.Path.{sym, _∙_}
 use mathlib.Core.Bool.{true≢false, false≢true}
 use borrow.Author.Tests.{eq-eqb}

@@ -1,4 +1,4 @@
--- `reopen::link_of` meets its contract. Assumes nothing.
+-- `reopen::link_of` meets its contract: the three numbers of an arc stand one after the other. Assumes nothing.
 use Prim.Native.Nat.{_+_, _*_}
 use native.Mathlib.Omega.{arith}
 use borrow.Author.Needs.{needs}

@@ -1,4 +1,4 @@
--- `reopen::open_item` meets its contract. Assumes nothing.
+-- `reopen::open_item` meets its contract: a node or a goal opens with the rows mended; any other arc may be passed where it can cut nothing. Assumes nothing.
 use Prim.Native.Nat.{_-_, _<_}
 use native.Mathlib.Omega.{arith}
 use borrow.Author.Needs.{needs}
@@ -28,7 +28,7 @@ open-arc-requires c κs =
     let p = s .pre .0 .0 in
     let tail = p .tails (s .args .o .item - s .args .o .nodes) l in
     let head = p .heads (s .args .o .item - s .args .o .nodes) l in
-    (s .pre .1, (omega (arith, L .tail, p .few), omega (arith, L .head, p .few)))
+    ((s .pre .1 .0, s .pre .1 .1, s .pre .1 .2, s .pre .1 .3, s .pre .1 .4), (omega (arith, L .tail, p .few), omega (arith, L .head, p .few), s .pre .1 .5))
 
 same-length-2 : tie.Need-same-length-2
 same-length-2 c = search needs
@@ -51,7 +51,7 @@ idle-requires c κs =
       omega (arith, L .tail, p .few),
       omega (arith, L .head, p .few),
       omega (arith, L .head, p .marked),
-      s .pre .1 .1 .room,
+      omega (arith, s .pre .1 .1 .room),
       s .pre .1 .2,
     )
 
@@ -73,7 +73,7 @@ open-arc-requires-2 c κs =
     let p = s .pre .0 .0 in
     let tail = p .tails (s .args .o .item - s .args .o .nodes) l in
     let head = p .heads (s .args .o .item - s .args .o .nodes) l in
-    (s .pre .1, (omega (arith, L .tail, p .few), omega (arith, L .head, p .few)))
+    ((s .pre .1 .0, s .pre .1 .1, s .pre .1 .2, s .pre .1 .3, s .pre .1 .4), (omega (arith, L .tail, p .few), omega (arith, L .head, p .few), s .pre .1 .5))
 
 same-length-4 : tie.Need-same-length-4
 same-length-4 c = search needs

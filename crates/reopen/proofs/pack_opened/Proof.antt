@@ -1,4 +1,4 @@
--- `reopen::pack_opened` meets its contract. Assumes nothing.
+-- `reopen::pack_opened` meets its contract: an arc is put behind the others, and else the open arcs are packed anew. Assumes nothing.
 use Prim.Native.Nat.{ℕ, _+_, _-_}
 use mathlib.Core.Path.{_≡_, sym, ap, _∙_}
 use native.Mathlib.Omega.{arith}

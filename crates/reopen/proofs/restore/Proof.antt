@@ -1,4 +1,4 @@
--- `reopen::restore` meets its contract. Assumes nothing.
+-- `reopen::restore` meets its contract: the loop's invariant: the numbers below `i` are back, the others are as they were. Assumes nothing.
 use Prim.Native.Nat.{_-_, _≤_}
 use mathlib.Core.Path.{_≡_, refl}
 use native.Mathlib.Omega.{arith}

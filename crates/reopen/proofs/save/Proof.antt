@@ -1,4 +1,4 @@
--- `reopen::save` meets its contract. Assumes nothing.
+-- `reopen::save` meets its contract: the loop's invariant: the numbers below `i` are kept, those in front are as they were. Assumes nothing.
 use Prim.Native.Nat.{_-_, _≤_}
 use mathlib.Core.Path.{_≡_, refl}
 use native.Mathlib.Omega.{arith}

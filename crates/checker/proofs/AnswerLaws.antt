@@ -1,0 +1,33 @@
+-- From what the code finds to the answer on a slip that is well written. Assumes nothing.
+use Prim.Native.Nat.{ℕ}
+use mathlib.Core.Path.{_≡_, ap₂, _∙_}
+use mathlib.Core.Bool.{Bool, true, false, not, _&&_}
+use mathlib.Core.List.{List, []}
+use Rattle.lists.specs.Lists.{member, every}
+use Rattle.varint.specs.Varint.{got, refuse}
+use Rattle.walks.specs.Graph.{fits}
+use Rattle.sheet.specs.Sheet.{Sheet, isForbidden}
+use Rattle.sheet.specs.Slip.{Slip}
+use Rattle.slip.specs.Form.{slipFrom}
+use Rattle.claim.proofs.FormLaws.{and-assoc}
+use Rattle.verify.specs.Check.{wellFormed, isGoal, holds, judgedOn}
+use Rattle.checker.specs.declared.Answer.{Answer}
+use Rattle.checker.specs.Answer.{answerOf}
+
+module _ (S : Sheet) (s : Slip) where
+  -- 18 where the slip is not well formed
+  pub answer-formed : wellFormed S s ≡ false → answerOf (refuse 18) ≡ answerOf (judgedOn S s [])
+  unfolding judgedOn
+  answer-formed e = rw e
+
+  -- yes where the reasons and the goals are of their kinds and no walk fits; no otherwise
+  pub answer-judged : (k f answer : Bool) → wellFormed S s ≡ true → k ≡ (every (isForbidden S) (s .reasons) && every (isGoal S (s .first)) (s .goals))
+      → f ≡ fits (S .graph) (S .source) (S .target) (S .limit) (λ j. member j (s .reasons)) (s .goals) → answer ≡ (k && not f)
+      → answerOf (got answer []) ≡ answerOf (judgedOn S s [])
+  unfolding judgedOn holds
+  answer-judged k f answer w p q e = rw (w, ← q, e, p, and-assoc)
+
+-- the answer speaks of the lists as the slip has them
+pub of-lists : (S : Sheet) (v : ℕ) {xs ys goals reasons : List ℕ} {a : Answer} → xs ≡ goals → ys ≡ reasons → a ≡ answerOf (judgedOn S (slipFrom v xs ys) [])
+    → a ≡ answerOf (judgedOn S (slipFrom v goals reasons) [])
+of-lists S v p q e = e ∙ ap₂ (λ (gs rs : List ℕ). answerOf (judgedOn S (slipFrom v gs rs) [])) p q

@@ -1,0 +1,84 @@
+-- What check gives and leaves, from its parts. Assumes nothing.
+use Prim.Native.Nat.{ℕ, _≤_, _<_}
+use mathlib.Core.Path.{_≡_, refl, sym, ap, ap₂, _∙_}
+use mathlib.Core.Bool.{Bool, true, false, _&&_}
+use mathlib.Core.List.{List, [], _++_}
+use lib.ListN.{length, drop}
+use lib.Dec.{leb, ltb}
+use borrow.Author.Tests.{lt-ltb, le-ltb, le-leb}
+use Rattle.lists.specs.Lists.{pick}
+use Rattle.varint.specs.Varint.{Read, got, refuse, after, number}
+use Rattle.sheet.specs.Sheet.{Sheet}
+use Rattle.sheet.specs.Slip.{Slip, readSlip, slipGoals, as17}
+use Rattle.sheet.specs.Reader.{taken}
+use Rattle.sheet.specs.Lent.{workNumbers, zeros, zeroed, workAfter}
+use Rattle.slip.specs.Form.{slipOf}
+use Rattle.slip.specs.declared.SlipForm.{SlipForm}
+use Rattle.slip.specs.declared.SlipRead.{SlipRead}
+use Rattle.slip.specs.declared.SlipRead.the-variants.{Formed, Unformed}
+use Rattle.verdict.proofs.AcceptedLaws.{accepted-taken}
+use Rattle.verify.specs.Check.{wellFormed, holds, judgedOn, checkOn, Outcome, outcome, checked}
+use Rattle.checker.specs.declared.Answer.{Answer}
+use Rattle.checker.specs.Answer.{answerOf, formOf}
+use Rattle.checker.proofs.RefusalLaws.{refused-low}
+
+-- the answer on a slip, from how it is written
+module _ (S : Sheet) (slip : List ℕ) (r : SlipRead) (e : slipOf slip r ≡ readSlip slip) where
+  read-as : {q : SlipRead} → r ≡ q → answerOf (after (slipOf slip q) (judgedOn S)) ≡ answerOf (after (readSlip slip) (judgedOn S))
+  read-as p = ap (λ (x : Read Slip). answerOf (after x (judgedOn S))) (ap (slipOf slip) (sym p) ∙ e)
+
+  pub answer-form : {f : SlipForm} {a : Answer} → r ≡ Formed f
+      → a ≡ answerOf (judgedOn S (formOf slip f) [])
+      → a ≡ answerOf (after (readSlip slip) (judgedOn S))
+  unfolding after
+  answer-form p z = z ∙ read-as p
+
+  pub answer-unformed : {a : Answer} → r ≡ Unformed → a ≡ answerOf (refuse 17) → a ≡ answerOf (after (readSlip slip) (judgedOn S))
+  unfolding after
+  answer-unformed p z = z ∙ read-as p
+
+-- the answer's number and yes, and the work
+abbrev pub given : Answer → List ℕ → Outcome
+given a work = record { number = a .number; yes = a .yes; work = work }
+
+-- what a slip draws leaves the work's numbers zero
+slip-zeroes : (S : Sheet) (slip work : List ℕ) → given (answerOf (after (readSlip slip) (judgedOn S))) (zeroed work) ≡ outcome (after (readSlip slip) (judgedOn S)) work
+unfolding readSlip as17 after judgedOn answerOf outcome workAfter
+slip-zeroes S slip work = go (after (number 17 (λ x. leb 1 x && leb x 4) slip) slipGoals)
+  where
+    formed : (t : Bool) (s : Slip) (rest : List ℕ)
+        → given (answerOf (pick t (got (holds S s) rest) (refuse 18))) (zeroed work) ≡ outcome (pick t (got (holds S s) rest) (refuse 18)) work
+    formed true s rest = refl
+    formed false s rest = refl
+
+    go : (r : Read Slip) → given (answerOf (after (as17 r) (judgedOn S))) (zeroed work) ≡ outcome (after (as17 r) (judgedOn S)) work
+    go (got s rest) = formed (wellFormed S s) s rest
+    go (refuse e) = refl
+
+zeroed-same : (xs ys : List ℕ) → drop 16384 xs ≡ drop 16384 ys → zeroed xs ≡ zeroed ys
+unfolding zeroed
+zeroed-same xs ys d = ap (λ (zs : List ℕ). zeros workNumbers ++ zs) d
+
+module _ (sheet work slip : List ℕ) where
+  -- 1
+  pub checked-short : (a : Answer) → a ≡ answerOf (refuse 1) → length work < 16384 → given a work ≡ checked sheet work slip
+  unfolding checked outcome workAfter answerOf
+  checked-short a e h = let z : ltb (length work) 16384 ≡ true = lt-ltb (length work) 16384 h in rw (e, z)
+
+  on-sheet : 16384 ≤ length work → outcome (checkOn sheet slip) work ≡ checked sheet work slip
+  unfolding checked
+  on-sheet h = let z : ltb (length work) 16384 ≡ false = le-ltb (length work) 16384 h in rw z
+
+  -- 3 to 13: the work is left as found
+  pub checked-refused : (a : Answer) (w : ℕ) → a ≡ answerOf (refuse w) → 16384 ≤ length work → taken sheet ≡ refuse w
+      → given a work ≡ checked sheet work slip
+  unfolding checkOn after outcome workAfter answerOf
+  checked-refused a w e h t =
+      let z : leb w 13 ≡ true = le-leb w 13 (refused-low sheet w t) in
+      rw e (rw (accepted-taken sheet, t, z) at (on-sheet h))
+
+  -- 17, 18, yes or no: the work's numbers are zero
+  pub checked-slip : (a : Answer) (S : Sheet) (used left : List ℕ) → a ≡ answerOf (after (readSlip slip) (judgedOn S)) → 16384 ≤ length work → taken sheet ≡ got S []
+      → drop 16384 used ≡ drop 16384 work → left ≡ zeroed used → given a left ≡ checked sheet work slip
+  unfolding checkOn after
+  checked-slip a S used left e h t d z = ap₂ given e (z ∙ zeroed-same used work d) ∙ slip-zeroes S slip work ∙ (rw (accepted-taken sheet, t) at (on-sheet h))

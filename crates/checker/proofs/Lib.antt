@@ -1,0 +1,3 @@
+pub mod AnswerLaws
+pub mod RefusalLaws
+pub mod CheckedLaws

@@ -1,0 +1,4 @@
+pub mod ListLaws
+pub mod ClosingLaws
+pub mod FormLaws
+pub mod GoalLaws

@@ -1,0 +1,62 @@
+-- Demand 2 on the operation: what a call of pass that answers 0 has written. Its contract says that a call gives and leaves `passed`, so each
+-- statement here is one about every such call. Assumes nothing.
+use Prim.Native.Nat.{ℕ, _<_}
+use mathlib.Core.Path.{_≡_, refl, sym, ap, _∙_}
+use mathlib.Core.Logic.{_↔_}
+use mathlib.Core.Bool.{Bool, true, false}
+use mathlib.Core.List.{List, [], _∷_}
+use native.Mathlib.Omega.{arith}
+use lib.ListN.{length, take, drop}
+use lib.Seq.{take-at}
+use lib.Dec.{ltb}
+use Rattle.sheet.proofs.RefusalLaws.{taken-refuses}
+use Rattle.sheet.specs.Lent.{workNumbers}
+use Rattle.sheet.specs.Sheet.{Sheet, isOpen}
+use Rattle.sheet.specs.Slip.{Slip}
+use Rattle.varint.specs.Varint.{Read, got, refuse, after}
+use Rattle.verdict.proofs.AcceptedLaws.{accepted-taken, accepted-got}
+use Rattle.verdict.proofs.Demand2.{Refusal, prune-exact, refuse-exact}
+use Rattle.verdict.proofs.VerdictLaws.{NoWalkOn}
+use Rattle.verdict.specs.Accepted.{accepted}
+use Rattle.verdict.specs.Pass.{finished, answerOf, outcome, lentEnough, passOn, passed, verdictIn, markIn, Refuses}
+use Rattle.verdict.specs.Verdict.{verdict, passSlip}
+use Rattle.walks.specs.Graph.{itemCount}
+
+-- a call that answers 0: the sheet is accepted, and the stated slip stands in front
+pub record Finished (sheet work slip : List ℕ) : Type 0 where
+  pub read : Sheet
+  pub accepts : accepted sheet ≡ got read []
+  pub writes : passOn sheet ≡ finished (take (passed sheet work slip .length) (passed sheet work slip .slip))
+
+pub call-finished : (sheet work slip : List ℕ) → passed sheet work slip .number ≡ 0 → Finished sheet work slip
+unfolding passed lentEnough outcome passOn answerOf after
+call-finished sheet work slip = go (ltb (length work) workNumbers) refl (ltb (length slip) 1200) refl (accepted sheet) refl
+  where
+    go : (a : Bool) → ltb (length work) workNumbers ≡ a → (b : Bool) → ltb (length slip) 1200 ≡ b → (r : Read Sheet) → accepted sheet ≡ r
+        → passed sheet work slip .number ≡ 0 → Finished sheet work slip
+    go true p b q r e z = absurd (let y : _≡_ {A = ℕ} 1 0 = rw p at z in omega arith)
+    go false p true q r e z = absurd (let y : _≡_ {A = ℕ} 2 0 = rw (p, q) at z in omega arith)
+    go false p false q (refuse w) e z =
+        let y : w ≡ 0 = rw (p, q, e) at z in
+        let t = taken-refuses sheet w (sym (accepted-taken sheet) ∙ e) in
+        absurd (omega (arith, t .0))
+    go false p false q (got S rest) e z =
+        let n = accepted-got sheet S rest e .1 in
+        record {
+          read = S;
+          accepts = e ∙ ap (got S) n;
+          writes = rw (p, q, e) (ap finished (sym (take-at (passSlip S (verdict S)) (drop (length (passSlip S (verdict S))) slip) (length (passSlip S (verdict S))) refl)));
+        }
+
+module _ (sheet work slip : List ℕ) (z : passed sheet work slip .number ≡ 0) where
+  -- a call that answers 0 with verdict 0 has struck off an open item exactly when no walk through it keeps to the limit
+  pub call-prunes : verdictIn (take (passed sheet work slip .length) (passed sheet work slip .slip)) ≡ 0
+      → (S : Sheet) × (accepted sheet ≡ got S [])
+      × ((i : ℕ) → i < itemCount (S .graph) → isOpen S i ≡ true → (markIn (take (passed sheet work slip .length) (passed sheet work slip .slip)) i ≡ 2) ↔ NoWalkOn S (i ∷ []))
+  call-prunes v =
+      let f = call-finished sheet work slip z in
+      (f .read, f .accepts, prune-exact sheet (f .read) (f .accepts) (take (passed sheet work slip .length) (passed sheet work slip .slip)) (f .writes) v)
+
+  -- a call that answers 0 has refused the round exactly when a walk is missing
+  pub call-refuses : (S : Sheet) × (accepted sheet ≡ got S []) × (((s : Slip) × Refuses sheet s) ↔ Refusal S)
+  call-refuses = let f = call-finished sheet work slip z in (f .read, f .accepts, refuse-exact sheet (f .read) (f .accepts))

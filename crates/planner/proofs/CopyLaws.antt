@@ -1,0 +1,136 @@
+-- The layer answers and leaves what copying the work in, running the operation over those numbers and copying them out would: numbers made of bytes give these
+-- bytes back, and numbers that are zero give bytes that are zero. Assumes nothing.
+use Prim.Native.Nat.{ℕ, zero, suc, _+_, _*_, _≤_, _<_, _/_, _%_}
+use mathlib.Core.Path.{_≡_, refl, sym, ap, _∙_, subst}
+use mathlib.Core.Bool.{Bool, true, false}
+use mathlib.Core.List.{List, [], _∷_, _++_, append-nil}
+use native.Mathlib.Omega.{arith}
+use lib.ListN.{length, take, drop, drop-of-length-le, length-replicate, take-append-drop}
+use lib.Seq.{length-take-le}
+use lib.Dec.{leb}
+use Rattle.lists.proofs.Pigeonhole.{Below}
+use Rattle.lists.specs.Lists.{pick, front}
+use Rattle.reason.specs.Reason.{reasonOn, reasoned}
+use Rattle.sheet.specs.Lent.{zeros, zeroed, workAfter}
+use Rattle.varint.specs.Varint.{Read, got, refuse}
+use Rattle.verdict.specs.Pass as pass
+use Rattle.verdict.specs.Pass.{Answer, finished, refused, passOn, passed}
+use Rattle.verify.specs.Check as check
+use Rattle.verify.specs.Check.{checkOn, checked}
+use Rattle.planner.specs.Copied.{numbersOf, bytesOf, copiedOut, checkCopiedOut}
+use Rattle.planner.specs.Lent.{zeroedBytes, bytesAfter}
+use Rattle.planner.specs.Left.{leftBytes}
+use Rattle.planner.specs.Layer.{outcome, lentEnough, passedBytes, reasonedBytes}
+use Rattle.planner.specs.Check.{checkedBytes}
+use Rattle.planner.proofs.LeftLaws.{left-finished, left-refused}
+use Rattle.planner.proofs.LayerLaws.{Within, in-bytes, enough, enough-within}
+use Rattle.planner.proofs.CheckLaws.{Drawn, check-in-bytes, over-numbers}
+use Rattle.planner.proofs.WithinLaws.{pass-within, reason-within, check-drawn}
+
+-- a number made of four bytes gives them back
+number-back : (a b c d : ℕ) (xs : List ℕ) → a < 256 → b < 256 → c < 256 → d < 256
+    → bytesOf ((a + 256 * b + 65536 * c + 16777216 * d) ∷ xs) ≡ a ∷ b ∷ c ∷ d ∷ bytesOf xs
+unfolding bytesOf
+number-back a b c d xs p q r s =
+    let x = a + 256 * b + 65536 * c + 16777216 * d in
+    let e : x % 256 ≡ a = omega arith in
+    let f : x / 256 ≡ b + 256 * c + 65536 * d = omega arith in
+    let g : x / 65536 ≡ c + 256 * d = omega arith in
+    let h : x / 16777216 ≡ d = omega arith in
+    let f₁ : x / 256 % 256 ≡ b = rw f (omega arith) in
+    let g₁ : x / 65536 % 256 ≡ c = rw g (omega arith) in
+    let h₁ : x / 16777216 % 256 ≡ d = rw h (omega arith) in
+    rw (e, f₁, g₁, h₁)
+
+pub bytes-back : (k : ℕ) (bytes : List ℕ) → Below 256 bytes → 4 * k ≤ length bytes → bytesOf (numbersOf k bytes) ≡ take (4 * k) bytes
+unfolding numbersOf bytesOf
+bytes-back zero bytes b h = refl
+bytes-back (suc k) [] b h = absurd (omega arith)
+bytes-back (suc k) (w ∷ []) b h = absurd (omega arith)
+bytes-back (suc k) (w ∷ x ∷ []) b h = absurd (omega arith)
+bytes-back (suc k) (w ∷ x ∷ y ∷ []) b h = absurd (omega arith)
+bytes-back (suc k) (w ∷ x ∷ y ∷ z ∷ bytes) b h =
+    let n : 4 * suc k ≡ suc (suc (suc (suc (4 * k)))) = omega arith in
+    number-back w x y z (numbersOf k bytes) (b .0) (b .1 .0) (b .1 .1 .0) (b .1 .1 .1 .0)
+    ∙ ap (λ (xs : List ℕ). w ∷ x ∷ y ∷ z ∷ xs) (bytes-back k bytes (b .1 .1 .1 .1) (omega arith))
+    ∙ ap (λ (j : ℕ). take j (w ∷ x ∷ y ∷ z ∷ bytes)) (sym n)
+
+length-numbers : (k : ℕ) (bytes : List ℕ) → length (numbersOf k bytes) ≡ k
+unfolding numbersOf
+length-numbers zero bytes = refl
+length-numbers (suc k) bytes = ap suc (length-numbers k (drop 4 bytes))
+
+bytes-zeros : (k : ℕ) → bytesOf (zeros k) ≡ zeros (4 * k)
+unfolding bytesOf zeros
+bytes-zeros zero = refl
+bytes-zeros (suc k) =
+    let n : 4 * suc k ≡ suc (suc (suc (suc (4 * k)))) = omega arith in
+    ap (λ (xs : List ℕ). 0 ∷ 0 ∷ 0 ∷ 0 ∷ xs) (bytes-zeros k) ∙ ap zeros (sym n)
+
+length-zeros : (k : ℕ) → length (zeros k) ≡ k
+unfolding zeros
+length-zeros k = length-replicate {A = ℕ} k 0
+
+front-zeros : (k : ℕ) (work : List ℕ) → front (bytesOf (zeros k)) work ≡ zeros (4 * k) ++ drop (4 * k) work
+front-zeros k work = rw (bytes-zeros k, length-zeros (4 * k))
+
+module _ (work : List ℕ) (h : 65536 ≤ length work) (b : Below 256 work) where
+  -- the work, copied in
+  abbrev numbers : List ℕ
+  numbers = numbersOf 16384 work
+
+  zeroed-numbers : zeroed numbers ≡ zeros 16384
+  unfolding zeroed
+  zeroed-numbers =
+      let n : drop 16384 numbers ≡ [] = drop-of-length-le numbers {i = 16384} (omega (arith, length-numbers 16384 work)) in
+      rw n (append-nil (zeros 16384))
+
+  zero-out : front (bytesOf (zeroed numbers)) work ≡ zeroedBytes work
+  unfolding zeroedBytes
+  zero-out = ap (λ (xs : List ℕ). front (bytesOf xs) work) zeroed-numbers ∙ front-zeros 16384 work
+
+  same-out : front (bytesOf numbers) work ≡ work
+  same-out =
+      let e : bytesOf numbers ≡ take 65536 work = bytes-back 16384 work b h in
+      ap (λ (xs : List ℕ). front xs work) e ∙ ap (λ (k : ℕ). take 65536 work ++ drop k work) (length-take-le 65536 work h) ∙ take-append-drop 65536 work
+
+  refused-out : (e : ℕ) → 1 ≤ e → front (bytesOf (workAfter e numbers)) work ≡ leftBytes e work
+  unfolding workAfter bytesAfter
+  refused-out e l = go (leb e 13) ∙ sym (left-refused e work l)
+    where
+      go : (t : Bool) → front (bytesOf (pick t numbers (zeroed numbers))) work ≡ pick t work (zeroedBytes work)
+      go true = same-out
+      go false = zero-out
+
+  numbers-lent : 16384 ≤ length numbers
+  numbers-lent = omega (arith, length-numbers 16384 work)
+
+  answer-out : (slip : List ℕ) (x : Answer) → Within x → front (bytesOf (pass.outcome x numbers slip .work)) work ≡ leftBytes (pass.outcome x numbers slip .number) work
+  unfolding pass.outcome
+  answer-out slip (finished bytes) l = zero-out ∙ sym (left-finished 0 work refl)
+  answer-out slip (refused e) l = refused-out e (l .0)
+
+  copied : (slip : List ℕ) (a : Answer) → Within a → copiedOut (pass.outcome (pass.lentEnough numbers slip a) numbers slip) work ≡ outcome (lentEnough work slip a) work slip
+  copied slip a w =
+      let l : Within (pass.lentEnough numbers slip a) = subst Within (sym (enough numbers work slip numbers-lent h a w)) (enough-within numbers work slip numbers-lent h a w) in
+      in-bytes numbers work slip numbers-lent h a w (pass.outcome (pass.lentEnough numbers slip a) numbers slip) refl refl (answer-out slip (pass.lentEnough numbers slip a) l)
+
+  check-out : (r : Read Bool) → Drawn r → front (bytesOf (check.outcome r numbers .work)) work ≡ leftBytes (check.outcome r numbers .number) work
+  unfolding check.outcome
+  check-out (got answer rest) l = zero-out ∙ sym (left-finished 0 work refl)
+  check-out (refuse e) l = refused-out e (l .0)
+
+  pub pass-copied : (sheet slip : List ℕ) → passedBytes sheet work slip ≡ copiedOut (passed sheet (numbersOf 16384 work) slip) work
+  unfolding passedBytes passed
+  pass-copied sheet slip = sym (copied slip (passOn sheet) (pass-within sheet))
+
+  pub reason-copied : (sheet slip : List ℕ) (i : ℕ) → reasonedBytes sheet work slip i ≡ copiedOut (reasoned sheet (numbersOf 16384 work) slip i) work
+  unfolding reasonedBytes reasoned
+  reason-copied sheet slip i = sym (copied slip (reasonOn sheet i) (reason-within sheet i))
+
+  pub check-copied : (sheet slip : List ℕ) → checkedBytes sheet work slip ≡ checkCopiedOut (checked sheet (numbersOf 16384 work) slip) work
+  check-copied sheet slip =
+      let d = check-drawn sheet slip in
+      let e = over-numbers sheet numbers work slip numbers-lent h d in
+      let l : front (bytesOf (checked sheet numbers slip .work)) work ≡ leftBytes (checked sheet numbers slip .number) work = rw e (check-out (checkOn sheet slip) d) in
+      sym (check-in-bytes sheet numbers work slip numbers-lent h d (checked sheet numbers slip) refl refl l)

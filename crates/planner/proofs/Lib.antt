@@ -1,0 +1,5 @@
+pub mod LeftLaws
+pub mod LayerLaws
+pub mod WithinLaws
+pub mod CheckLaws
+pub mod CopyLaws

@@ -1,0 +1,102 @@
+// The planner's layer (document 01, 'The operations and what they refuse'): the operations for a program in C, with numbers and byte slices alone.
+//
+// The work is lent as bytes, four per number, low byte first. What its numbers hold has no effect on an answer, and an operation leaves them as found or zero;
+// so each call lends the operation numbers of its own, and the bytes are left as found or zeroed by the same rule.
+ghost use mathlib.Core.Path.{_≡_};
+ghost use Prim.Native.Nat.{_+_, _*_, _≤_};
+ghost use lib.ListN.{length};
+ghost use Rattle.planner.specs.Lent.{workBytes, zeroedBytes};
+ghost use Rattle.planner.specs.Layer.{passedBytes, reasonedBytes};
+ghost use Rattle.planner.specs.Check.{yesNumber, checkedBytes};
+ghost use Rattle.planner.specs.Left.{leftBytes};
+
+const WORK_BYTES: usize = 65536;
+
+// What a refusal number counts in the one number of a call.
+const REFUSAL: u32 = 65536;
+
+// The last refusal that leaves the work as found.
+const LAST_UNTOUCHED: u32 = 13;
+
+// Leaves the first 65,536 work bytes zero and the rest as found.
+fn zero(work: &mut [u8])
+    requires { ⌜ workBytes ≤ length (now work) ⌝ }
+    ensures { λ _. ⌜ now (work .exit) ≡ zeroedBytes (now (work .entry)) ⌝ }
+{
+    let mut i: usize = 0;
+    while i < WORK_BYTES {
+        work[i] = 0;
+        i += 1;
+    }
+}
+
+// Leaves the work bytes as a call with this refusal number does, 0 where it finished.
+fn leave(work: &mut [u8], number: u32)
+    requires { ⌜ workBytes ≤ length (now work) ⌝ }
+    ensures { λ _. ⌜ now (work .exit) ≡ leftBytes number (now (work .entry)) ⌝ }
+{
+    if number == 0 {
+        zero(work);
+        return;
+    }
+    if number > LAST_UNTOUCHED {
+        zero(work);
+    }
+}
+
+// The one number of a call: the refusal and the slip's length, or 1 for yes.
+fn one_number(number: u32, length: usize) -> u32
+    requires { ⌜ (number ≤ 18) × (length ≤ 1200) ⌝ }
+    ensures { λ r. ⌜ r ≡ 65536 * number + length ⌝ }
+{
+    REFUSAL * number + length as u32
+}
+
+// What yes adds to the one number of a check.
+fn yes_number(yes: bool) -> usize
+    ensures { λ r. ⌜ (r ≡ yesNumber yes) × (r ≤ 1) ⌝ }
+{
+    if yes { 1 } else { 0 }
+}
+
+// Pass for a program in C.
+#[no_mangle]
+pub extern "C" fn ways_pass(sheet: &[u8], work: &mut [u8], slip: &mut [u8]) -> u32
+    ensures { λ r. ⌜ record { number = r; work = now (work .exit); slip = now (slip .exit) } ≡ passedBytes (now (sheet .entry)) (now (work .entry)) (now (slip .entry)) ⌝ }
+{
+    if work.len() < WORK_BYTES {
+        return REFUSAL;
+    }
+    let mut numbers = [0u32; pass::WORK_NUMBERS];
+    let answer = pass::pass(sheet, &mut numbers, slip);
+    leave(work, answer.number);
+    one_number(answer.number, answer.length)
+}
+
+// Reason for a program in C.
+#[no_mangle]
+pub extern "C" fn ways_reason(sheet: &[u8], work: &mut [u8], slip: &mut [u8], item: u32) -> u32
+    ensures { λ r. ⌜ record { number = r; work = now (work .exit); slip = now (slip .exit) } ≡ reasonedBytes (now (sheet .entry)) (now (work .entry)) (now (slip .entry)) item ⌝ }
+{
+    if work.len() < WORK_BYTES {
+        return REFUSAL;
+    }
+    let mut numbers = [0u32; pass::WORK_NUMBERS];
+    let answer = reason::reason(sheet, &mut numbers, slip, item);
+    leave(work, answer.number);
+    one_number(answer.number, answer.length)
+}
+
+// Check for a program in C.
+#[no_mangle]
+pub extern "C" fn ways_check(sheet: &[u8], work: &mut [u8], slip: &[u8]) -> u32
+    ensures { λ r. ⌜ record { number = r; work = now (work .exit) } ≡ checkedBytes (now (sheet .entry)) (now (work .entry)) (now (slip .entry)) ⌝ }
+{
+    if work.len() < WORK_BYTES {
+        return REFUSAL;
+    }
+    let mut numbers = [0u32; pass::WORK_NUMBERS];
+    let answer = checker::check(sheet, &mut numbers, slip);
+    leave(work, answer.number);
+    one_number(answer.number, yes_number(answer.yes))
+}

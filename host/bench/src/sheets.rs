@@ -1,0 +1,130 @@
+//! The standard sheets.
+
+use cases::{sheet_b, Random, Sheet, Slip, FORBIDDEN, MANDATORY, OPEN};
+use reference::{least, SLIP_BYTES, WORK_BYTES};
+
+pub enum Operation {
+    Pass,
+    Reason(u32),
+    Check(Vec<u8>),
+}
+
+impl Operation {
+    pub fn name(&self) -> &'static str {
+        match self {
+            Operation::Pass => "pass",
+            Operation::Reason(_) => "reason",
+            Operation::Check(_) => "check",
+        }
+    }
+}
+
+pub struct Standard {
+    pub name: String,
+    pub sheet: Vec<u8>,
+    pub operation: Operation,
+}
+
+const NODES: usize = 64;
+const ARCS: usize = 512;
+
+/// 64 nodes and 512 arcs, all open. A ring comes first, so that every node can be reached.
+fn full(seed: u64) -> Sheet {
+    let mut random = Random::new(seed);
+    let arcs: Vec<[u32; 3]> = (0..ARCS)
+        .map(|arc| {
+            let tail = if arc < NODES { arc } else { random.below(NODES) };
+            let step = if arc < NODES { 1 } else { random.between(1, NODES - 1) };
+            [tail as u32, ((tail + step) % NODES) as u32, random.between(1, 100) as u32]
+        })
+        .collect();
+    Sheet::new(NODES as u32, 0, NODES as u32 - 1, 0, &arcs)
+}
+
+/// Eight mandatory nodes.
+fn demanding(sheet: &Sheet) -> Sheet {
+    (0..8).fold(sheet.clone(), |sheet, i| sheet.with_mark(3 + 7 * i, MANDATORY))
+}
+
+/// Every second arc behind the ring forbidden: 224 closures.
+fn half_closed(sheet: &Sheet) -> Sheet {
+    (NODES + NODES..NODES + ARCS).step_by(2).fold(sheet.clone(), |sheet, item| sheet.with_mark(item, FORBIDDEN))
+}
+
+fn all_closed(sheet: &Sheet) -> Sheet {
+    Sheet { marks: vec![FORBIDDEN; sheet.marks.len()], ..sheet.clone() }
+}
+
+/// The least length through all required nodes, or with none of them from source to target.
+fn least_length(sheet: &Sheet) -> u32 {
+    let read = reference::Sheet::read(&sheet.bytes()).expect("a good sheet");
+    least(&read, &read.required_nodes()).expect("the ring is open") as u32
+}
+
+fn pass_slip(sheet: &Sheet) -> Vec<u8> {
+    let mut slip = vec![0; SLIP_BYTES];
+    let length = reference::pass(&sheet.bytes(), &mut vec![0; WORK_BYTES], &mut slip);
+    slip.truncate(length as usize);
+    slip
+}
+
+fn verdict(sheet: &Sheet) -> u8 {
+    pass_slip(sheet)[0]
+}
+
+fn closures(sheet: &Sheet) -> usize {
+    sheet.marks.iter().filter(|&&mark| mark == FORBIDDEN).count()
+}
+
+/// The first item that the pass strikes.
+fn struck(sheet: &Sheet) -> u32 {
+    let slip = pass_slip(sheet);
+    let item = (0..sheet.marks.len()).find(|&item| sheet.marks[item] == OPEN && slip[item + 1] == 2);
+    item.expect("an item is struck") as u32
+}
+
+fn pass(name: &str, sheet: &Sheet, expected: u8) -> Standard {
+    assert_eq!(verdict(sheet), expected, "{name}");
+    let name = match (closures(sheet), Slip::written(&pass_slip(sheet))) {
+        (closed, Some(slip)) => format!("{name}, {closed} closures: verdict {expected}, {} reasons", slip.reasons.len()),
+        _ => format!("{name}: verdict {expected}"),
+    };
+    Standard { name, sheet: sheet.bytes(), operation: Operation::Pass }
+}
+
+fn reason(name: &str, sheet: &Sheet) -> Standard {
+    let item = struck(sheet);
+    Standard { name: format!("{name}, {} closures: item {item}", closures(sheet)), sheet: sheet.bytes(), operation: Operation::Reason(item) }
+}
+
+fn check(name: &str, sheet: &Sheet, slip: Vec<u8>) -> Standard {
+    Standard { name: name.to_string(), sheet: sheet.bytes(), operation: Operation::Check(slip) }
+}
+
+pub fn standard() -> Vec<Standard> {
+    let plain = full(1);
+    let free = plain.with_limit(least_length(&plain) * 2);
+    let eight = demanding(&plain);
+    let eight_fit = eight.with_limit(least_length(&eight));
+    let closed = half_closed(&eight);
+    let (open_length, closed_length) = (least_length(&eight), least_length(&closed));
+    let blamed = closed.with_limit((open_length + closed_length) / 2);
+    let too_long = closed.with_limit(open_length - 1);
+    let all = all_closed(&plain).with_limit(least_length(&plain));
+    let partly = half_closed(&plain);
+    let partly = partly.with_limit(least_length(&partly) * 3 / 2);
+    let b = sheet_b();
+    vec![
+        pass("B", &b, 0),
+        pass("64 nodes, 512 arcs, none required", &free, 0),
+        pass("64 nodes, 512 arcs, eight required", &eight_fit, 0),
+        pass("64 nodes, 512 arcs, eight required", &blamed, 3),
+        pass("the same, too long with all open", &too_long, 3),
+        pass("64 nodes, 512 arcs", &all, 1),
+        reason("B", &b),
+        reason("64 nodes, 512 arcs", &partly),
+        check("B within 7: verdict 1, no reasons", &b.with_limit(7), vec![1, 0, 0]),
+        check("the slip of verdict 1 above", &all, pass_slip(&all)),
+        check("the slip of the first verdict 3 above", &blamed, pass_slip(&blamed)),
+    ]
+}

@@ -1,0 +1,179 @@
+//! Random sheets of several kinds.
+
+use crate::random::Random;
+use crate::written::{number, Sheet, FORBIDDEN, MANDATORY, OPEN};
+
+/// What is special about a sheet.
+#[derive(Clone, Copy, Debug, PartialEq, Eq)]
+pub enum Kind {
+    /// few nodes and arcs: many verdicts, short lists
+    Tiny,
+    /// up to 16 nodes
+    Small,
+    /// 64 nodes and 512 arcs
+    Full,
+    /// arcs of no minutes
+    Zero,
+    /// many arcs between the same few nodes
+    Parallel,
+    /// long ways with the greatest weights
+    Long,
+    /// nearly everything forbidden
+    Closed,
+    /// as many required nodes as are allowed
+    Required,
+}
+
+pub const KINDS: [Kind; 8] = [Kind::Tiny, Kind::Small, Kind::Full, Kind::Zero, Kind::Parallel, Kind::Long, Kind::Closed, Kind::Required];
+
+/// A sheet that keeps to every rule of document 01, but that more than eight nodes may be required once in a while.
+pub fn draw(kind: Kind, random: &mut Random) -> Sheet {
+    let (nodes, arc_count) = size(kind, random);
+    let source = random.below(nodes);
+    let target = (source + random.between(1, nodes - 1)) % nodes;
+    let weights = most_minutes(kind, random);
+    let arcs: Vec<[u32; 3]> = ends(kind, nodes, (source, target), arc_count, random)
+        .into_iter()
+        .map(|(tail, head)| [tail as u32, head as u32, random.between(0, weights) as u32])
+        .collect();
+    let limit = limit(kind, random);
+    let mut sheet = Sheet::new(nodes as u32, source as u32, target as u32, limit, &arcs);
+    forbid(kind, &mut sheet, random);
+    demand(kind, &mut sheet, random);
+    sheet
+}
+
+fn size(kind: Kind, random: &mut Random) -> (usize, usize) {
+    match kind {
+        Kind::Tiny => (random.between(2, 6), random.between(0, 16)),
+        Kind::Small | Kind::Zero => (random.between(3, 16), random.between(4, 60)),
+        Kind::Full => (64, 512),
+        Kind::Parallel => (random.between(2, 6), random.between(20, 512)),
+        Kind::Long => (random.between(8, 64), random.between(64, 512)),
+        Kind::Closed => (random.between(4, 64), random.between(10, 512)),
+        Kind::Required => (random.between(11, 64), random.between(40, 512)),
+    }
+}
+
+/// How the arcs of a sheet lie.
+#[derive(Clone, Copy)]
+enum Shape {
+    /// anywhere
+    Free,
+    /// mostly from a node to the next by number: long ways
+    Ring,
+    /// mostly out of the source or into the target: each node is near, and all of them together are not
+    Fan,
+}
+
+/// Tail and head of each arc.
+fn ends(kind: Kind, nodes: usize, (source, target): (usize, usize), count: usize, random: &mut Random) -> Vec<(usize, usize)> {
+    let shape = if kind == Kind::Long { Shape::Ring } else { random.pick(&[Shape::Free, Shape::Ring, Shape::Fan, Shape::Fan]) };
+    let ordered = random.between(5, 10);
+    let mut ends = vec![];
+    while ends.len() < count {
+        let (tail, head) = (random.below(nodes), random.below(nodes));
+        let (tail, head) = match shape {
+            Shape::Ring if random.chance(ordered, 10) => (tail, (tail + 1) % nodes),
+            Shape::Fan if random.chance(ordered, 10) => random.pick(&[(source, head), (tail, target)]),
+            _ => (tail, head),
+        };
+        if tail != head {
+            ends.push((tail, head));
+        }
+    }
+    ends
+}
+
+fn most_minutes(kind: Kind, random: &mut Random) -> usize {
+    match kind {
+        Kind::Zero => random.below(2),
+        Kind::Long => 65_535,
+        _ => random.pick(&[1, 3, 9, 127, 128, 1_000, 16_384, 65_535]),
+    }
+}
+
+fn limit(kind: Kind, random: &mut Random) -> u32 {
+    let most = match kind {
+        Kind::Tiny | Kind::Zero => random.pick(&[0, 4, 20, 1_000]),
+        Kind::Long => 1_000_000,
+        _ => random.pick(&[10, 100, 1_000, 20_000, 200_000, 1_000_000]),
+    };
+    random.between(0, most) as u32
+}
+
+fn forbid(kind: Kind, sheet: &mut Sheet, random: &mut Random) {
+    let (of_nodes, of_arcs) = match kind {
+        Kind::Closed => (random.pick(&[0, 0, 0, 50, 100]), random.pick(&[40, 60, 80, 95, 100])),
+        _ => (random.pick(&[0, 0, 0, 3, 20]), random.pick(&[0, 5, 20, 50])),
+    };
+    for item in 0..sheet.marks.len() {
+        let percent = if item < sheet.nodes as usize { of_nodes } else { of_arcs };
+        if random.chance(percent, 100) {
+            sheet.marks[item] = FORBIDDEN;
+        }
+    }
+}
+
+/// Makes items mandatory: nodes, and now and then arcs, whose ends are required too. Mostly open ones, some forbidden ones.
+fn demand(kind: Kind, sheet: &mut Sheet, random: &mut Random) {
+    let (nodes, arcs) = match kind {
+        Kind::Required => random.pick(&[(8, 0), (8, 0), (6, 1), (4, 2), (0, 4), (9, 0)]),
+        Kind::Full => random.pick(&[(0, 0), (1, 0), (8, 0), (4, 2), (2, 1)]),
+        _ => random.pick(&[(0, 0), (1, 0), (2, 0), (4, 0), (5, 0), (0, 1), (1, 1), (2, 2)]),
+    };
+    let count = sheet.nodes as usize;
+    for _ in 0..nodes {
+        demand_one(sheet, random.below(count), random);
+    }
+    for _ in 0..arcs.min(sheet.arcs.len()) {
+        demand_one(sheet, count + random.below(sheet.arcs.len()), random);
+    }
+}
+
+fn demand_one(sheet: &mut Sheet, item: usize, random: &mut Random) {
+    if sheet.marks[item] == OPEN || random.chance(1, 10) {
+        sheet.marks[item] = MANDATORY;
+    }
+}
+
+/// A sheet's bytes with one fault or a few: a byte changed, left out or put in, the end cut off or something put behind it, a number made too great or badly
+/// written.
+pub fn damaged(sheet: &Sheet, random: &mut Random) -> Vec<u8> {
+    let mut numbers: Vec<Vec<u8>> = sheet.numbers().into_iter().map(number).collect();
+    if random.chance(1, 2) {
+        let at = random.below(numbers.len());
+        let near_front = random.below(numbers.len().min(12));
+        numbers[random.pick(&[at, near_front])] = odd_number(random);
+    }
+    let mut bytes = numbers.concat();
+    for _ in 0..random.below(3) {
+        damage_bytes(&mut bytes, random);
+    }
+    bytes
+}
+
+/// Numbers at and beyond the bounds that the reader knows, and numbers that are badly written.
+fn odd_number(random: &mut Random) -> Vec<u8> {
+    let values = [0, 1, 2, 3, 63, 64, 65, 127, 128, 511, 512, 513, 16_383, 16_384, 65_535, 65_536, 1_000_000, 1_000_001, 2_097_152, 268_435_455];
+    let written: [&[u8]; 7] =
+        [&[0x80, 0], &[0x81, 0x80, 0], &[0xff, 0xff, 0xff, 0xff], &[0x80, 0x80, 0x80, 0], &[0x80, 0x80, 0x80, 0x80, 1], &[0x80], &[0xff, 0x7f]];
+    if random.chance(2, 3) {
+        number(random.pick(&values))
+    } else {
+        random.pick(&written).to_vec()
+    }
+}
+
+fn damage_bytes(bytes: &mut Vec<u8>, random: &mut Random) {
+    let at = random.below(bytes.len() + 1);
+    let any = random.bits() as u8;
+    let byte = random.pick(&[0, 1, 2, 3, 0x3f, 0x40, 0x41, 0x7f, 0x80, 0xff, any]);
+    match random.below(5) {
+        0 if at < bytes.len() => bytes[at] = byte,
+        1 if at < bytes.len() => drop(bytes.remove(at)),
+        2 => bytes.insert(at, byte),
+        3 => bytes.truncate(at),
+        _ => bytes.push(byte),
+    }
+}

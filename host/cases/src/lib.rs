@@ -1,0 +1,11 @@
+//! Sheets to try: a small generator of random numbers, a writer of sheets and slips, and makers of sheets of every kind. Nothing here reads or judges a sheet.
+
+mod altered;
+mod draw;
+mod random;
+mod written;
+
+pub use altered::{alterations, Slip};
+pub use draw::{damaged, draw, Kind, KINDS};
+pub use random::Random;
+pub use written::{number, numbers, sheet_b, Sheet, FORBIDDEN, MANDATORY, OPEN};

@@ -1,0 +1,65 @@
+//! Sheets as numbers, and their bytes.
+
+pub const OPEN: u32 = 0;
+pub const MANDATORY: u32 = 1;
+pub const FORBIDDEN: u32 = 2;
+
+/// The numbers of a sheet. They need not keep to the rules: a faulty sheet is written as readily as a good one.
+#[derive(Clone, Debug)]
+pub struct Sheet {
+    pub nodes: u32,
+    pub source: u32,
+    pub target: u32,
+    pub limit: u32,
+    /// tail, head, minutes
+    pub arcs: Vec<[u32; 3]>,
+    /// the nodes' marks, then the arcs'
+    pub marks: Vec<u32>,
+}
+
+impl Sheet {
+    /// All items open.
+    pub fn new(nodes: u32, source: u32, target: u32, limit: u32, arcs: &[[u32; 3]]) -> Sheet {
+        let marks = vec![OPEN; nodes as usize + arcs.len()];
+        Sheet { nodes, source, target, limit, arcs: arcs.to_vec(), marks }
+    }
+
+    pub fn with_limit(&self, limit: u32) -> Sheet {
+        Sheet { limit, ..self.clone() }
+    }
+
+    pub fn with_mark(&self, item: usize, mark: u32) -> Sheet {
+        let mut sheet = self.clone();
+        sheet.marks[item] = mark;
+        sheet
+    }
+
+    pub fn numbers(&self) -> Vec<u32> {
+        let front = [self.nodes, self.arcs.len() as u32, self.source, self.target, self.limit];
+        front.into_iter().chain(self.arcs.iter().flatten().copied()).chain(self.marks.iter().copied()).collect()
+    }
+
+    pub fn bytes(&self) -> Vec<u8> {
+        numbers(&self.numbers())
+    }
+}
+
+/// A number in groups of seven bits, in its shortest form.
+pub fn number(mut value: u32) -> Vec<u8> {
+    let mut bytes = Vec::new();
+    while value >= 128 {
+        bytes.push(value as u8 | 128);
+        value >>= 7;
+    }
+    bytes.push(value as u8);
+    bytes
+}
+
+pub fn numbers(values: &[u32]) -> Vec<u8> {
+    values.iter().flat_map(|&value| number(value)).collect()
+}
+
+/// The sheet B of document 01.
+pub fn sheet_b() -> Sheet {
+    Sheet::new(4, 0, 3, 8, &[[0, 1, 4], [1, 3, 4], [0, 2, 3], [2, 3, 9], [1, 2, 1]])
+}

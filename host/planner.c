@@ -1,0 +1,141 @@
+/* A small planner: it draws up the sheet B, asks for the pass, for the reason of each struck item and for a check of each slip, and says in words what came back. Then
+ * it shuts a place and a leg, so that the round is refused, and last hands over a sheet that is cut short.
+ *
+ *     cc -Wall -Wextra -Werror -I host host/planner.c target/staticlib/libplanner.a -o planner
+ */
+#include "ways.h"
+
+#include <stdio.h>
+
+#define PLACES 4u
+#define LEGS 5u
+#define ITEMS (PLACES + LEGS)
+#define START 0u
+#define FINISH 3u
+
+enum { OPEN, MUST, SHUT };
+
+struct leg { uint32_t tail, head, minutes; };
+
+static const struct leg legs[LEGS] = { { 0, 1, 4 }, { 1, 3, 4 }, { 0, 2, 3 }, { 2, 3, 9 }, { 1, 2, 1 } };
+
+static uint8_t sheet[WAYS_SHEET_BYTES];
+static uint8_t work[WAYS_WORK_BYTES];
+static uint8_t slip[WAYS_SLIP_BYTES];
+
+/* Writes a number in groups of seven bits and returns where the next one goes. */
+static uint8_t *put(uint8_t *at, uint32_t value) {
+    while (value >= 0x80u) {
+        *at++ = (uint8_t)(value | 0x80u);
+        value >>= 7;
+    }
+    *at++ = (uint8_t)value;
+    return at;
+}
+
+/* Reads a number that the library wrote, so well formed, and moves on behind it. */
+static uint32_t get(const uint8_t **at) {
+    uint32_t value = 0;
+    unsigned shift = 0;
+    while (**at & 0x80u) {
+        value |= (uint32_t)(*(*at)++ & 0x7fu) << shift;
+        shift += 7;
+    }
+    return value | (uint32_t)*(*at)++ << shift;
+}
+
+/* Draws up the sheet with this limit and these marks, and returns its length. */
+static size_t draw_up(uint32_t limit, const uint8_t marks[ITEMS]) {
+    uint8_t *at = sheet;
+    at = put(at, PLACES);
+    at = put(at, LEGS);
+    at = put(at, START);
+    at = put(at, FINISH);
+    at = put(at, limit);
+    for (uint32_t i = 0; i < LEGS; i++) {
+        at = put(at, legs[i].tail);
+        at = put(at, legs[i].head);
+        at = put(at, legs[i].minutes);
+    }
+    for (uint32_t i = 0; i < ITEMS; i++) {
+        at = put(at, marks[i]);
+    }
+    return (size_t)(at - sheet);
+}
+
+static void print_item(uint32_t item) {
+    if (item < PLACES) {
+        printf("place %u", (unsigned)item);
+    } else {
+        const struct leg *leg = &legs[item - PLACES];
+        printf("the leg from %u to %u of %u minutes", (unsigned)leg->tail, (unsigned)leg->head, (unsigned)leg->minutes);
+    }
+}
+
+/* Prints the list at a slip's place and moves on behind it. */
+static void print_list(const uint8_t **at, const char *before, const char *when_empty) {
+    uint32_t count = get(at);
+    printf("  %s", count ? before : when_empty);
+    for (uint32_t i = 0; i < count; i++) {
+        printf(i ? ", " : " ");
+        print_item(get(at));
+    }
+    printf("\n");
+}
+
+/* Says what a slip of a refused round or a struck item has, and asks for a check of it. */
+static void explain(size_t sheet_length, uint32_t slip_length) {
+    const uint8_t *at = slip;
+    get(&at);
+    print_list(&at, "it needs", "any walk within the limit would do");
+    print_list(&at, "because these are shut:", "because the map alone is too long");
+    uint32_t answer = ways_check(sheet, sheet_length, work, sizeof work, slip, slip_length);
+    printf("  check says %s\n", answer == 1 ? "yes" : "no");
+}
+
+/* Says which open items the pass struck off, and why. */
+static void print_struck(size_t sheet_length, const uint8_t marks[ITEMS], const uint8_t struck[ITEMS]) {
+    for (uint32_t item = 0; item < ITEMS; item++) {
+        if (marks[item] == OPEN && struck[item] == SHUT) {
+            printf("struck off: ");
+            print_item(item);
+            printf("\n");
+            explain(sheet_length, WAYS_LENGTH(ways_reason(sheet, sheet_length, work, sizeof work, slip, sizeof slip, item)));
+        }
+    }
+}
+
+/* Asks for the pass on the sheet drawn up, and says what came back. */
+static void judge(size_t sheet_length, const uint8_t marks[ITEMS]) {
+    uint32_t number = ways_pass(sheet, sheet_length, work, sizeof work, slip, sizeof slip);
+    if (WAYS_REFUSAL(number)) {
+        printf("the sheet is refused with %u\n", (unsigned)WAYS_REFUSAL(number));
+        return;
+    }
+    if (slip[0] > 0) {
+        printf("the round is refused with verdict %u\n", (unsigned)slip[0]);
+        explain(sheet_length, WAYS_LENGTH(number));
+        return;
+    }
+    printf("the round stands\n");
+    uint8_t struck[ITEMS];
+    for (uint32_t item = 0; item < ITEMS; item++) {
+        struck[item] = slip[item + 1];
+    }
+    print_struck(sheet_length, marks, struck);
+}
+
+int main(void) {
+    const uint8_t all_open[ITEMS] = { OPEN };
+    const uint8_t closed[ITEMS] = { OPEN, SHUT, OPEN, OPEN, OPEN, SHUT, OPEN, OPEN, OPEN };
+
+    printf("B, within 8 minutes\n");
+    judge(draw_up(8, all_open), all_open);
+
+    printf("\nB with place 1 and the leg from 1 to 3 shut\n");
+    judge(draw_up(8, closed), closed);
+
+    printf("\nB without its last mark\n");
+    judge(draw_up(8, all_open) - 1, all_open);
+    return 0;
+}

@@ -1,0 +1,204 @@
+//! Pass, reason and check over lent bytes, as the planner calls them. Each gives 65,536 times the refusal number plus the slip's length, or for check plus 1 for yes.
+
+use crate::graph::Graph;
+use crate::number::write;
+use crate::reasons::reasons;
+use crate::sheet::{Sheet, FORBIDDEN, MANDATORY, OPEN};
+use crate::slip::Slip;
+use crate::tour::Lengths;
+
+pub type Refusal = u32;
+
+/// The work that a call needs, and zeroes unless it refuses 1 to 13.
+pub const WORK_BYTES: usize = 65_536;
+/// The slip that pass and reason need.
+pub const SLIP_BYTES: usize = 1_200;
+/// What a refusal number is multiplied by.
+pub const LENGTHS: u32 = 65_536;
+
+const WORK_SHORT: Refusal = 1;
+const SLIP_SHORT: Refusal = 2;
+const LAST_THAT_KEEPS_WORK: Refusal = 13;
+const NO_ITEM: Refusal = 15;
+const NOT_PRUNED: Refusal = 16;
+const SLIP_ITEMS: Refusal = 18;
+
+const NO_GOAL: usize = 1;
+const ONE_GOAL: usize = 2;
+const ALL_GOALS: usize = 3;
+const PRUNED: usize = 4;
+
+pub fn pass(sheet: &[u8], work: &mut [u8], slip: &mut [u8]) -> u32 {
+    let answer = lent(work, Some(slip)).and_then(|()| Sheet::read(sheet)).map(|sheet| pass_on(&sheet, slip));
+    outcome(answer, work)
+}
+
+pub fn reason(sheet: &[u8], work: &mut [u8], slip: &mut [u8], item: u32) -> u32 {
+    let answer = lent(work, Some(slip)).and_then(|()| Sheet::read(sheet)).and_then(|sheet| reason_on(&sheet, slip, item as usize));
+    outcome(answer, work)
+}
+
+pub fn check(sheet: &[u8], work: &mut [u8], slip: &[u8]) -> u32 {
+    let answer = lent(work, None).and_then(|()| Sheet::read(sheet)).and_then(|sheet| check_on(&sheet, slip));
+    outcome(answer.map(usize::from), work)
+}
+
+fn lent(work: &[u8], slip: Option<&[u8]>) -> Result<(), Refusal> {
+    if work.len() < WORK_BYTES {
+        return Err(WORK_SHORT);
+    }
+    match slip {
+        Some(slip) if slip.len() < SLIP_BYTES => Err(SLIP_SHORT),
+        _ => Ok(()),
+    }
+}
+
+/// 14 is never drawn: a shortest walk through eight nodes has nine stretches of at most 63 arcs, so less than 2^26 minutes.
+fn outcome(answer: Result<usize, Refusal>, work: &mut [u8]) -> u32 {
+    if !matches!(answer, Err(refusal) if refusal <= LAST_THAT_KEEPS_WORK) {
+        work[..WORK_BYTES].fill(0);
+    }
+    match answer {
+        Ok(length) => length as u32,
+        Err(refusal) => refusal * LENGTHS,
+    }
+}
+
+/// A sheet with the open part of its graph and the lengths from source and to target.
+struct Pass<'a> {
+    sheet: &'a Sheet,
+    graph: Graph,
+    lengths: Lengths,
+}
+
+impl Pass<'_> {
+    fn new(sheet: &Sheet) -> Pass<'_> {
+        let graph = Graph::new(sheet, |item| sheet.marks[item] == FORBIDDEN);
+        let lengths = Lengths::new(sheet, &graph);
+        Pass { sheet, graph, lengths }
+    }
+
+    /// Some walk clear of the forbidden items meets the item within the limit (source document 002, propositions 1 and 2).
+    fn fits(&self, item: usize) -> bool {
+        let (from, to) = (&self.lengths.from[0], &self.lengths.to[0]);
+        let length = match item.checked_sub(self.sheet.nodes) {
+            None => from[item] + to[item],
+            Some(arc) => {
+                let arc = self.sheet.arcs[arc];
+                from[arc.tail as usize] + u64::from(arc.weight) + to[arc.head as usize]
+            }
+        };
+        self.sheet.marks[item] != FORBIDDEN && length <= self.sheet.limit
+    }
+
+    /// The verdict and its goals. For verdict 3 the goals are in the lengths already.
+    fn verdict(&mut self) -> (usize, Vec<usize>) {
+        let sheet = self.sheet;
+        if !self.fits(sheet.target) {
+            return (NO_GOAL, Vec::new());
+        }
+        if let Some(item) = (0..sheet.items()).find(|&item| sheet.marks[item] == MANDATORY && !self.fits(item)) {
+            return (ONE_GOAL, vec![item]);
+        }
+        if sheet.required == 0 {
+            return (0, Vec::new());
+        }
+        let required = sheet.required_nodes();
+        self.lengths.add_goals(sheet, &self.graph, &required);
+        if self.lengths.through_goals(&self.lengths.pairs()) > sheet.limit {
+            return (ALL_GOALS, required);
+        }
+        self.lengths.drop_goals();
+        (0, Vec::new())
+    }
+
+    fn is_pruned(&self, item: usize) -> bool {
+        self.sheet.marks[item] == OPEN && !self.fits(item)
+    }
+
+    /// The marks that a pass with verdict 0 leaves, at the front of `marks`.
+    fn write_marks(&self, marks: &mut [u8]) {
+        let sheet = self.sheet;
+        let forced = sheet.ends_of_mandatory() | 1 << sheet.source | 1 << sheet.target;
+        for (item, mark) in marks[..sheet.items()].iter_mut().enumerate() {
+            let is_forced = item < sheet.nodes && forced >> item & 1 == 1;
+            *mark = match sheet.marks[item] {
+                OPEN if !self.fits(item) => FORBIDDEN,
+                OPEN if is_forced => MANDATORY,
+                mark => mark,
+            };
+        }
+    }
+}
+
+fn pass_on(sheet: &Sheet, slip: &mut [u8]) -> usize {
+    let mut pass = Pass::new(sheet);
+    let (verdict, goals) = pass.verdict();
+    if verdict == 0 {
+        let at = write(0, slip);
+        pass.write_marks(&mut slip[at..]);
+        return at + sheet.items();
+    }
+    if verdict == ONE_GOAL {
+        pass.lengths.add_goals(sheet, &pass.graph, &goals);
+    }
+    let reasons = reasons(sheet, &mut pass.graph, &mut pass.lengths);
+    Slip { first: verdict, goals, reasons }.write(slip)
+}
+
+fn reason_on(sheet: &Sheet, slip: &mut [u8], item: usize) -> Result<usize, Refusal> {
+    if item >= sheet.items() {
+        return Err(NO_ITEM);
+    }
+    let mut pass = Pass::new(sheet);
+    if !pass.is_pruned(item) || pass.verdict().0 != 0 {
+        return Err(NOT_PRUNED);
+    }
+    let goals = vec![item];
+    pass.lengths.add_goals(sheet, &pass.graph, &goals);
+    let reasons = reasons(sheet, &mut pass.graph, &mut pass.lengths);
+    Ok(Slip { first: PRUNED, goals, reasons }.write(slip))
+}
+
+fn check_on(sheet: &Sheet, slip: &[u8]) -> Result<bool, Refusal> {
+    let slip = Slip::read(slip)?;
+    if !is_well_formed(sheet, &slip) {
+        return Err(SLIP_ITEMS);
+    }
+    let marked = slip.reasons.iter().all(|&item| sheet.marks[item] == FORBIDDEN) && slip.goals.iter().all(|&goal| is_goal(sheet, slip.first, goal));
+    Ok(marked && is_reason(sheet, &slip))
+}
+
+fn is_well_formed(sheet: &Sheet, slip: &Slip) -> bool {
+    let known = |list: &[usize], count: usize| list.iter().all(|&item| item < count);
+    let ascending = |list: &[usize]| list.windows(2).all(|two| two[0] < two[1]);
+    let goals = match slip.first {
+        NO_GOAL => 0..=0,
+        ALL_GOALS => 1..=8,
+        _ => 1..=1,
+    };
+    let goal_items = if slip.first == ALL_GOALS { sheet.nodes } else { sheet.items() };
+    known(&slip.goals, goal_items)
+        && known(&slip.reasons, sheet.items())
+        && ascending(&slip.goals)
+        && ascending(&slip.reasons)
+        && goals.contains(&slip.goals.len())
+}
+
+fn is_goal(sheet: &Sheet, first: usize, goal: usize) -> bool {
+    match first {
+        ONE_GOAL => sheet.marks[goal] == MANDATORY,
+        ALL_GOALS => sheet.required >> goal & 1 == 1,
+        _ => sheet.marks[goal] == OPEN,
+    }
+}
+
+/// No walk clear of the slip's reasons, all else open, meets its goals within the limit. Its goals are no forbidden arcs.
+fn is_reason(sheet: &Sheet, slip: &Slip) -> bool {
+    let mut closed = vec![false; sheet.items()];
+    slip.reasons.iter().for_each(|&item| closed[item] = true);
+    let graph = Graph::new(sheet, |item| closed[item]);
+    let mut lengths = Lengths::new(sheet, &graph);
+    lengths.add_goals(sheet, &graph, &slip.goals);
+    lengths.through_goals(&lengths.pairs()) > sheet.limit
+}

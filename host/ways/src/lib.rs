@@ -1,0 +1,71 @@
+//! The three functions of the proved library for Rust. `host/ways.h` has their contracts.
+
+use std::fmt;
+
+/// What the lent work must have.
+pub const WORK_BYTES: usize = 65_536;
+/// What the lent slip of pass and reason must have.
+pub const SLIP_BYTES: usize = 1_200;
+
+/// The archive that this crate links, for programs in C that are to link the same.
+pub const ARCHIVE: &str = env!("WAYS_LINKED_ARCHIVE");
+
+/// The functions as C sees them: the one number that each returns.
+pub mod numbers {
+    mod c {
+        extern "C" {
+            pub fn ways_pass(sheet: *const u8, sheet_len: usize, work: *mut u8, work_len: usize, slip: *mut u8, slip_len: usize) -> u32;
+            pub fn ways_reason(sheet: *const u8, sheet_len: usize, work: *mut u8, work_len: usize, slip: *mut u8, slip_len: usize, item: u32) -> u32;
+            pub fn ways_check(sheet: *const u8, sheet_len: usize, work: *mut u8, work_len: usize, slip: *const u8, slip_len: usize) -> u32;
+        }
+    }
+
+    // Sound for every slice: the functions take any bytes and any lengths and stay inside what they are lent, and Rust's slices do not overlap where one can be
+    // written.
+
+    pub fn pass(sheet: &[u8], work: &mut [u8], slip: &mut [u8]) -> u32 {
+        unsafe { c::ways_pass(sheet.as_ptr(), sheet.len(), work.as_mut_ptr(), work.len(), slip.as_mut_ptr(), slip.len()) }
+    }
+
+    pub fn reason(sheet: &[u8], work: &mut [u8], slip: &mut [u8], item: u32) -> u32 {
+        unsafe { c::ways_reason(sheet.as_ptr(), sheet.len(), work.as_mut_ptr(), work.len(), slip.as_mut_ptr(), slip.len(), item) }
+    }
+
+    pub fn check(sheet: &[u8], work: &mut [u8], slip: &[u8]) -> u32 {
+        unsafe { c::ways_check(sheet.as_ptr(), sheet.len(), work.as_mut_ptr(), work.len(), slip.as_ptr(), slip.len()) }
+    }
+}
+
+/// A call was refused with this number, 1 to 18.
+#[derive(Clone, Copy, Debug, PartialEq, Eq)]
+pub struct Refused(pub u32);
+
+impl fmt::Display for Refused {
+    fn fmt(&self, f: &mut fmt::Formatter) -> fmt::Result {
+        write!(f, "refused {}", self.0)
+    }
+}
+
+impl std::error::Error for Refused {}
+
+/// Judges a sheet, and gives the slip's length.
+pub fn pass(sheet: &[u8], work: &mut [u8], slip: &mut [u8]) -> Result<usize, Refused> {
+    answer(numbers::pass(sheet, work, slip))
+}
+
+/// Says why the pass strikes an item, and gives the slip's length.
+pub fn reason(sheet: &[u8], work: &mut [u8], slip: &mut [u8], item: u32) -> Result<usize, Refused> {
+    answer(numbers::reason(sheet, work, slip, item))
+}
+
+/// Judges a slip: yes or no.
+pub fn check(sheet: &[u8], work: &mut [u8], slip: &[u8]) -> Result<bool, Refused> {
+    answer(numbers::check(sheet, work, slip)).map(|yes| yes == 1)
+}
+
+fn answer(number: u32) -> Result<usize, Refused> {
+    match number >> 16 {
+        0 => Ok(number as usize),
+        refusal => Err(Refused(refusal)),
+    }
+}
