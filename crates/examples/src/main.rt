@@ -1,77 +1,272 @@
-// Runs the lines of document 01, 'The sheet B and what it gives', that the formats alone decide, and prints what each sheet draws.
-use reader::SheetRead;
+// Runs the lines of document 01, 'The sheet B and what it gives', through pass, reason and check, and prints what each gives. The work and the slip
+// are lent longer than asked for and filled before the call, so that what is left as found can be seen.
+use libc::STDOUT_FILENO;
 
-const OUTPUT: i32 = 1;
+// How many work numbers an operation asks for, and a few more; a slip longer than asked for.
+const WORK_NUMBERS: usize = 16384;
 
-// Prints a line: the name, and `taken` or the refusal.
-fn show(name: &[u8], sheet: &[u8]) {
-    io::write_all(OUTPUT, name);
-    io::write_all(OUTPUT, b": ");
-    let mut arcs = [0u32; 1536];
-    let mut marks = [0u8; 576];
-    match reader::read(sheet, &mut arcs, &mut marks) {
-        SheetRead::Taken(_) => {
-            io::write_all(OUTPUT, b"taken");
+const WORK_LENT: usize = 16390;
+
+const SLIP_LENT: usize = 1210;
+
+// What the work and the slip hold before a call.
+const FILLED_NUMBER: u32 = 2779096485;
+
+const FILLED_BYTE: u8 = 165;
+
+// Whether the bytes from `from` on are as they were filled.
+fn is_slip_kept(slip: &[u8], from: usize) -> bool {
+    let mut i = from;
+    while i < slip.len() {
+        if slip[i] != FILLED_BYTE {
+            return false;
         }
-        SheetRead::Refused(number) => {
-            io::write_all(OUTPUT, b"refused ");
-            io::print_decimal(OUTPUT, number as u64);
-        }
+        i += 1;
     }
-    io::write_all(OUTPUT, b"\n");
+    true
 }
 
-// The sheet B, and B with its bytes changed.
-fn sheets_of_b() {
-    show(b"empty sheet", b"");
-    show(
+// Whether the numbers from `from` up to `to` are all `value`.
+fn is_work_all(work: &[u32], from: usize, to: usize, value: u32) -> bool {
+    let mut i = from;
+    while i < to {
+        if i < work.len() {
+            if work[i] != value {
+                return false;
+            }
+        }
+        i += 1;
+    }
+    true
+}
+
+// Prints a byte in hex behind a space.
+fn print_byte(byte: u8) {
+    io::write_all(STDOUT_FILENO, b" ");
+    io::print_hex(STDOUT_FILENO, byte as u64, 2);
+}
+
+// Prints the first `count` bytes in hex.
+fn print_bytes(slip: &[u8], count: usize) {
+    let mut i: usize = 0;
+    while i < count {
+        if i < slip.len() {
+            print_byte(slip[i]);
+        }
+        i += 1;
+    }
+}
+
+// Prints what a finished call left.
+fn show_finished(work: &[u32], slip: &[u8], length: usize) {
+    print_bytes(slip, length);
+    if is_slip_kept(slip, length) && is_work_all(work, WORK_NUMBERS, WORK_LENT, FILLED_NUMBER) {
+        io::write_all(STDOUT_FILENO, b"; rest untouched");
+    }
+    if is_work_all(work, 0, WORK_NUMBERS, 0) {
+        io::write_all(STDOUT_FILENO, b", work zero");
+    }
+}
+
+// Prints what a refused call left.
+fn show_refused(work: &[u32], slip: &[u8], number: u32) {
+    io::write_all(STDOUT_FILENO, b" refused ");
+    io::print_decimal(STDOUT_FILENO, number as u64);
+    if is_slip_kept(slip, 0) && is_work_all(work, 0, WORK_LENT, FILLED_NUMBER) {
+        io::write_all(STDOUT_FILENO, b"; all untouched");
+    }
+}
+
+// Prints what a call of pass or reason gives and leaves, and the line's end.
+fn show_answer(work: &[u32], slip: &[u8], number: u32, length: usize) {
+    if number == 0 {
+        show_finished(work, slip, length);
+    } else {
+        show_refused(work, slip, number);
+    }
+    io::write_all(STDOUT_FILENO, b"\n");
+}
+
+// Prints a line: the name, and what the pass gives.
+fn show_pass(name: &[u8], sheet: &[u8]) {
+    io::write_all(STDOUT_FILENO, name);
+    io::write_all(STDOUT_FILENO, b":");
+    let mut work = [FILLED_NUMBER; WORK_LENT];
+    let mut slip = [FILLED_BYTE; SLIP_LENT];
+    let answer = pass::pass(sheet, &mut work, &mut slip);
+    show_answer(&work, &slip, answer.number, answer.length);
+}
+
+// Prints a line: the name, and what reason gives for the item.
+fn show_reason(name: &[u8], sheet: &[u8], item: u32) {
+    io::write_all(STDOUT_FILENO, name);
+    io::write_all(STDOUT_FILENO, b":");
+    let mut work = [FILLED_NUMBER; WORK_LENT];
+    let mut slip = [FILLED_BYTE; SLIP_LENT];
+    let answer = reason::reason(sheet, &mut work, &mut slip, item);
+    show_answer(&work, &slip, answer.number, answer.length);
+}
+
+// Prints whether check says yes to the slip of the line before.
+fn show_check(sheet: &[u8], slip: &[u8]) {
+    let mut work = [FILLED_NUMBER; WORK_LENT];
+    let answer = checker::check(sheet, &mut work, slip);
+    if answer.number == 0 && answer.yes {
+        io::write_all(STDOUT_FILENO, b"  check: yes");
+    } else {
+        io::write_all(STDOUT_FILENO, b"  check: not yes");
+    }
+    if is_work_all(&work, 0, WORK_NUMBERS, 0)
+        && is_work_all(&work, WORK_NUMBERS, WORK_LENT, FILLED_NUMBER)
+    {
+        io::write_all(STDOUT_FILENO, b"; rest untouched, work zero");
+    }
+    io::write_all(STDOUT_FILENO, b"\n");
+}
+
+// Prints what pass gives and what check says to its slip.
+fn show_checked(name: &[u8], sheet: &[u8], slip: &[u8]) {
+    show_pass(name, sheet);
+    show_check(sheet, slip);
+}
+
+// Prints what reason gives and what check says to its slip.
+fn show_reason_checked(name: &[u8], sheet: &[u8], item: u32, slip: &[u8]) {
+    show_reason(name, sheet, item);
+    show_check(sheet, slip);
+}
+
+// A slip slice of 1,199 bytes.
+fn show_short_slip() {
+    io::write_all(STDOUT_FILENO, b"slip slice of 1,199:");
+    let mut work = [FILLED_NUMBER; WORK_LENT];
+    let mut slip = [FILLED_BYTE; 1199];
+    let sheet =
+        b"\x04\x05\x00\x03\x08\x00\x01\x04\x01\x03\x04\x00\x02\x03\x02\x03\x09\x01\x02\x01\x00\x00\x00\x00\x00\x00\x00\x00\x00";
+    let answer = pass::pass(sheet, &mut work, &mut slip);
+    show_refused(&work, &slip, answer.number);
+    io::write_all(STDOUT_FILENO, b"\n");
+}
+
+// The starred lines on which the round stands.
+fn starred_rounds() {
+    show_pass(
         b"B",
         b"\x04\x05\x00\x03\x08\x00\x01\x04\x01\x03\x04\x00\x02\x03\x02\x03\x09\x01\x02\x01\x00\x00\x00\x00\x00\x00\x00\x00\x00",
     );
-    show(
+    show_pass(
+        b"K 12, item 4 shut",
+        b"\x04\x05\x00\x03\x0C\x00\x01\x04\x01\x03\x04\x00\x02\x03\x02\x03\x09\x01\x02\x01\x00\x00\x00\x00\x02\x00\x00\x00\x00",
+    );
+    show_pass(
+        b"K 14, places 1 and 2 must",
+        b"\x04\x05\x00\x03\x0E\x00\x01\x04\x01\x03\x04\x00\x02\x03\x02\x03\x09\x01\x02\x01\x00\x01\x01\x00\x00\x00\x00\x00\x00",
+    );
+}
+
+// The starred lines on which the round is refused.
+fn starred_refusals() {
+    show_checked(
+        b"B with K 7",
+        b"\x04\x05\x00\x03\x07\x00\x01\x04\x01\x03\x04\x00\x02\x03\x02\x03\x09\x01\x02\x01\x00\x00\x00\x00\x00\x00\x00\x00\x00",
+        b"\x01\x00\x00",
+    );
+    show_checked(
+        b"B with place 2 must",
+        b"\x04\x05\x00\x03\x08\x00\x01\x04\x01\x03\x04\x00\x02\x03\x02\x03\x09\x01\x02\x01\x00\x00\x01\x00\x00\x00\x00\x00\x00",
+        b"\x02\x01\x02\x00",
+    );
+    show_checked(
+        b"K 13, places 1 and 2 must",
+        b"\x04\x05\x00\x03\x0D\x00\x01\x04\x01\x03\x04\x00\x02\x03\x02\x03\x09\x01\x02\x01\x00\x01\x01\x00\x00\x00\x00\x00\x00",
+        b"\x03\x02\x01\x02\x00",
+    );
+    show_checked(
+        b"K 14, places 1 and 2 must, item 8 shut",
+        b"\x04\x05\x00\x03\x0E\x00\x01\x04\x01\x03\x04\x00\x02\x03\x02\x03\x09\x01\x02\x01\x00\x01\x01\x00\x00\x00\x00\x00\x02",
+        b"\x03\x02\x01\x02\x01\x08",
+    );
+    show_checked(
+        b"K 8, item 1 shut",
+        b"\x04\x05\x00\x03\x08\x00\x01\x04\x01\x03\x04\x00\x02\x03\x02\x03\x09\x01\x02\x01\x00\x02\x00\x00\x00\x00\x00\x00\x00",
+        b"\x01\x00\x01\x01",
+    );
+    show_checked(
+        b"Items 1 and 5 shut",
+        b"\x04\x05\x00\x03\x08\x00\x01\x04\x01\x03\x04\x00\x02\x03\x02\x03\x09\x01\x02\x01\x00\x02\x00\x00\x00\x02\x00\x00\x00",
+        b"\x01\x00\x01\x05",
+    );
+    show_checked(
+        b"K 13, item 8 must",
+        b"\x04\x05\x00\x03\x0D\x00\x01\x04\x01\x03\x04\x00\x02\x03\x02\x03\x09\x01\x02\x01\x00\x00\x00\x00\x00\x00\x00\x00\x01",
+        b"\x02\x01\x08\x00",
+    );
+}
+
+// The starred lines of reason.
+fn starred_reasons() {
+    show_reason_checked(
+        b"B, reason for item 2",
+        b"\x04\x05\x00\x03\x08\x00\x01\x04\x01\x03\x04\x00\x02\x03\x02\x03\x09\x01\x02\x01\x00\x00\x00\x00\x00\x00\x00\x00\x00",
+        2,
+        b"\x04\x01\x02\x00",
+    );
+    show_reason_checked(
+        b"K 12, item 4 shut, reason for item 1",
+        b"\x04\x05\x00\x03\x0C\x00\x01\x04\x01\x03\x04\x00\x02\x03\x02\x03\x09\x01\x02\x01\x00\x00\x00\x00\x02\x00\x00\x00\x00",
+        1,
+        b"\x04\x01\x01\x01\x04",
+    );
+}
+
+// Sheets that cannot be read.
+fn bad_sheets() {
+    show_pass(b"Empty sheet", b"");
+    show_pass(
         b"B and one byte more",
         b"\x04\x05\x00\x03\x08\x00\x01\x04\x01\x03\x04\x00\x02\x03\x02\x03\x09\x01\x02\x01\x00\x00\x00\x00\x00\x00\x00\x00\x00\x00",
     );
-    show(
-        b"first number 80 00",
+    show_pass(
+        b"First number 80 00",
         b"\x80\x00\x05\x00\x03\x08\x00\x01\x04\x01\x03\x04\x00\x02\x03\x02\x03\x09\x01\x02\x01\x00\x00\x00\x00\x00\x00\x00\x00\x00",
     );
-}
-
-// Limits and minutes on both sides of their bounds.
-fn bounds() {
-    show(
-        b"limit C0 84 3D",
-        b"\x04\x05\x00\x03\xC0\x84\x3D\x00\x01\x04\x01\x03\x04\x00\x02\x03\x02\x03\x09\x01\x02\x01\x00\x00\x00\x00\x00\x00\x00\x00\x00",
-    );
-    show(
-        b"limit C1 84 3D",
+    show_pass(
+        b"Limit C1 84 3D",
         b"\x04\x05\x00\x03\xC1\x84\x3D\x00\x01\x04\x01\x03\x04\x00\x02\x03\x02\x03\x09\x01\x02\x01\x00\x00\x00\x00\x00\x00\x00\x00\x00",
     );
-    show(
-        b"minutes FF FF 03",
-        b"\x04\x05\x00\x03\x08\x00\x01\xFF\xFF\x03\x01\x03\x04\x00\x02\x03\x02\x03\x09\x01\x02\x01\x00\x00\x00\x00\x00\x00\x00\x00\x00",
-    );
-    show(
-        b"minutes 80 80 04",
+    show_pass(
+        b"Minutes 80 80 04",
         b"\x04\x05\x00\x03\x08\x00\x01\x80\x80\x04\x01\x03\x04\x00\x02\x03\x02\x03\x09\x01\x02\x01\x00\x00\x00\x00\x00\x00\x00\x00\x00",
     );
-}
-
-// Eleven nodes and no arc; all but source, target and in the first sheet one more are mandatory.
-fn required() {
-    show(
-        b"eight required nodes",
-        b"\x0B\x00\x00\x0A\x08\x00\x01\x01\x01\x01\x01\x01\x01\x01\x00\x00",
-    );
-    show(
-        b"nine required nodes",
+    show_pass(
+        b"Nine counted stops",
         b"\x0B\x00\x00\x0A\x08\x00\x01\x01\x01\x01\x01\x01\x01\x01\x01\x00",
     );
 }
 
+// Limits, minutes and counted stops at their bounds.
+fn bounds() {
+    show_pass(
+        b"Limit C0 84 3D",
+        b"\x04\x05\x00\x03\xC0\x84\x3D\x00\x01\x04\x01\x03\x04\x00\x02\x03\x02\x03\x09\x01\x02\x01\x00\x00\x00\x00\x00\x00\x00\x00\x00",
+    );
+    show_checked(
+        b"Minutes FF FF 03",
+        b"\x04\x05\x00\x03\x08\x00\x01\xFF\xFF\x03\x01\x03\x04\x00\x02\x03\x02\x03\x09\x01\x02\x01\x00\x00\x00\x00\x00\x00\x00\x00\x00",
+        b"\x01\x00\x00",
+    );
+    show_checked(
+        b"Eight counted stops",
+        b"\x0B\x00\x00\x0A\x08\x00\x01\x01\x01\x01\x01\x01\x01\x01\x00\x00",
+        b"\x01\x00\x00",
+    );
+}
+
 fn main() {
-    sheets_of_b();
+    starred_rounds();
+    starred_refusals();
+    starred_reasons();
+    bad_sheets();
     bounds();
-    required();
+    show_short_slip();
 }
