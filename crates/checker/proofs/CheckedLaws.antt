@@ -12,14 +12,15 @@ use Rattle.sheet.specs.Sheet.{Sheet}
 use Rattle.sheet.specs.Slip.{Slip, readSlip, slipGoals, as17}
 use Rattle.sheet.specs.Reader.{taken}
 use Rattle.sheet.specs.Lent.{workNumbers, zeros, zeroed, workAfter}
-use Rattle.slip.specs.Form.{slipOf}
-use Rattle.slip.specs.declared.SlipForm.{SlipForm}
-use Rattle.slip.specs.declared.SlipRead.{SlipRead}
-use Rattle.slip.specs.declared.SlipRead.the-variants.{Formed, Unformed}
+use Rattle.form.specs.Form.{slipOf}
+use Rattle.form.specs.declared.SlipForm.{SlipForm}
+use Rattle.form.specs.declared.SlipRead.{SlipRead}
+use Rattle.form.specs.declared.SlipRead.the-variants.{Formed, Unformed}
 use Rattle.verdict.proofs.AcceptedLaws.{accepted-taken}
 use Rattle.verify.specs.Check.{wellFormed, holds, judgedOn, checkOn, Outcome, outcome, checked}
-use Rattle.checker.specs.declared.Answer.{Answer}
-use Rattle.checker.specs.Answer.{answerOf, formOf}
+use Rattle.answers.specs.declared.Answer.{Answer}
+use Rattle.answers.specs.Answer.{answerOf}
+use Rattle.checker.specs.Written.{formOf}
 use Rattle.sheet.proofs.RefusalLaws.{taken-refuses}
 
 -- the answer on a slip, from how it is written

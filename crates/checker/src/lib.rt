@@ -3,50 +3,25 @@ ghost use mathlib.Core.Path.{_≡_};
 ghost use mathlib.Core.List.{[]};
 ghost use Prim.Native.Nat.{_+_, _≤_};
 ghost use lib.ListN.{length, drop};
-ghost use Rattle.varint.specs.Varint.{got, refuse, after};
+ghost use Rattle.varint.specs.Varint.{after};
 ghost use Rattle.sheet.specs.Slip.{readSlip};
 ghost use Rattle.sheet.specs.Lent.{zeroed};
-ghost use Rattle.reader.specs.Answer.{sheetOf};
-ghost use Rattle.slip.specs.Form.{SlipCounts};
-ghost use Rattle.slip.specs.declared.SlipRead.the-variants.{Formed};
-ghost use Rattle.judge.specs.Ready.{Whole};
+ghost use Rattle.required.specs.Held.{sheetOf, Whole};
+ghost use Rattle.form.specs.Form.{SlipCounts};
+ghost use Rattle.form.specs.declared.SlipRead.the-variants.{Formed};
 ghost use Rattle.verify.specs.Check.{judgedOn, checked};
-ghost use Rattle.checker.specs.Answer.{answerOf, formOf};
+ghost use Rattle.answers.specs.Answer.{answerOf};
+ghost use Rattle.checker.specs.Written.{formOf};
+use answers::Answer;
+use form::SlipForm;
+use form::SlipRead;
 use reader::SheetRead;
 use sections::Header;
-use slip::SlipForm;
-use slip::SlipRead;
 
 const WORK_NUMBERS: usize = 16384;
 
 // The most goals of a slip.
 const GOALS: usize = 8;
-
-// What check gives: the refusal number, 0 where it finished, and yes or no.
-pub struct Answer {
-    pub number: u32,
-    pub yes: bool,
-}
-
-// The answer of a call that is refused.
-fn refused(number: u32) -> Answer
-    ensures { λ r. ⌜ r ≡ answerOf (refuse number) ⌝ }
-{
-    Answer {
-        number: number,
-        yes: false,
-    }
-}
-
-// The answer of a call that finished.
-fn judged(yes: bool) -> Answer
-    ensures { λ r. ⌜ r ≡ answerOf (got yes []) ⌝ }
-{
-    Answer {
-        number: 0,
-        yes: yes,
-    }
-}
 
 // Judges the goals and the reasons of a slip: 18, or yes or no.
 fn judge_lists(
@@ -67,17 +42,17 @@ fn judge_lists(
     let reason_count = form.reasons as usize;
     let mut goal_list = [0usize; 8];
     let mut reason_list = [0usize; 576];
-    varint::numbers_at(slip, form.goals_at, goal_count, &mut goal_list);
-    varint::numbers_at(slip, form.reasons_at, reason_count, &mut reason_list);
+    numbers::numbers_at(slip, form.goals_at, goal_count, &mut goal_list);
+    numbers::numbers_at(slip, form.reasons_at, reason_count, &mut reason_list);
     let goals = &goal_list[..goal_count];
     let reasons = &reason_list[..reason_count];
     if !claim::well_formed(header, first, goals, reasons) {
-        return refused(18);
+        return answers::refused(18);
     }
     if !claim::kinds_hold(header, arcs, marks, first, goals, reasons) {
-        return judged(false);
+        return answers::judged(false);
     }
-    judged(!claim::fits_goals(header, arcs, goals, reasons, work))
+    answers::judged(!claim::fits_goals(header, arcs, goals, reasons, work))
 }
 
 // Judges a slip that is well written: 18, or yes or no. A list that is longer than any that is well formed is not read.
@@ -94,10 +69,10 @@ fn judge_form(
     ensures { λ _. ⌜ drop 16384 (now (work .exit)) ≡ drop 16384 (now (work .entry)) ⌝ }
 {
     if form.goals as usize > GOALS {
-        return refused(18);
+        return answers::refused(18);
     }
     if form.reasons as usize > header.nodes + header.arcs {
-        return refused(18);
+        return answers::refused(18);
     }
     judge_lists(header, arcs, marks, slip, form, work)
 }
@@ -108,9 +83,9 @@ fn judge(header: Header, arcs: &[u32], marks: &[u8], slip: &[u8], work: &mut [u3
     ensures { λ r. ⌜ r ≡ answerOf (after (readSlip (now (slip .entry))) (judgedOn (sheetOf header (now (arcs .entry)) (now (marks .entry))))) ⌝ }
     ensures { λ _. ⌜ drop 16384 (now (work .exit)) ≡ drop 16384 (now (work .entry)) ⌝ }
 {
-    match slip::judge_slip(slip) {
+    match form::judge_slip(slip) {
         SlipRead::Formed(form) => judge_form(header, arcs, marks, slip, form, work),
-        SlipRead::Unformed => refused(17),
+        SlipRead::Unformed => answers::refused(17),
     }
 }
 
@@ -128,13 +103,13 @@ pub fn check(sheet: &[u8], work: &mut [u32], slip: &[u8]) -> Answer
     ensures { λ r. ⌜ record { number = r .number; yes = r .yes; work = now (work .exit) } ≡ checked (now (sheet .entry)) (now (work .entry)) (now (slip .entry)) ⌝ }
 {
     if work.len() < WORK_NUMBERS {
-        return refused(1);
+        return answers::refused(1);
     }
     let mut arcs = [0u32; 1536];
     let mut marks = [0u8; 576];
     let header = match reader::read(sheet, &mut arcs, &mut marks) {
         SheetRead::Taken(header) => header,
-        SheetRead::Refused(why) => return refused(why),
+        SheetRead::Refused(why) => return answers::refused(why),
     };
     let numbers = 3 * header.arcs;
     let items = header.nodes + header.arcs;

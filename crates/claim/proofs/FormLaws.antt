@@ -17,10 +17,9 @@ use Rattle.walks.specs.Graph.{itemCount}
 use Rattle.walks.specs.Flat.{graphOf}
 use Rattle.sections.specs.declared.Header.{Header}
 use Rattle.sheet.specs.Sheet.{Sheet}
-use Rattle.reader.specs.Answer.{sheetOf}
-use Rattle.slip.specs.Form.{slipFrom}
-use Rattle.judge.specs.Ready.{Whole}
-use Rattle.judge.proofs.JudgeLaws.{items-are}
+use Rattle.required.specs.Held.{sheetOf, Whole}
+use Rattle.form.specs.Form.{slipFrom}
+use Rattle.required.proofs.HeldLaws.{items-are}
 use Rattle.verify.specs.Check.{goalCount, wellFormed}
 use Rattle.claim.specs.Claim.{Asked}
 use Rattle.claim.proofs.ClosingLaws.{entry-member}

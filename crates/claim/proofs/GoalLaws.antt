@@ -13,7 +13,7 @@ use Rattle.walks.specs.Flat.{graphOf}
 use Rattle.rows.specs.Held.{held, code, atMost}
 use Rattle.sections.specs.declared.Header.{Header}
 use Rattle.sheet.specs.Sheet.{Sheet, isOpen, isMandatory, markOf, required}
-use Rattle.judge.proofs.FitLaws.{held-within}
+use Rattle.fits.proofs.FitLaws.{held-within}
 use Rattle.verify.specs.Check.{isGoal}
 use Rattle.claim.specs.Claim.{Closing}
 

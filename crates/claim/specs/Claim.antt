@@ -7,7 +7,7 @@ use lib.ListN.{length}
 use Rattle.lists.specs.Lists.{member}
 use Rattle.walks.specs.Graph.{closedIn}
 use Rattle.rows.specs.Net.{netOf, Proper}
-use Rattle.lengths.specs.Table.{GoalsFit}
+use Rattle.table.specs.Table.{GoalsFit}
 use Rattle.sections.specs.declared.Header.{Header}
 
 -- marks of 576 items that close the listed ones and no other

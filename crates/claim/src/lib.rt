@@ -9,9 +9,8 @@ ghost use Rattle.lists.specs.Lists.{member, every, ascends};
 ghost use Rattle.walks.specs.Flat.{graphOf};
 ghost use Rattle.walks.specs.Graph.{itemCount, fits};
 ghost use Rattle.sheet.specs.Sheet.{Sheet, isForbidden, required};
-ghost use Rattle.reader.specs.Answer.{sheetOf};
-ghost use Rattle.slip.specs.Form.{slipFrom};
-ghost use Rattle.judge.specs.Ready.{Whole};
+ghost use Rattle.required.specs.Held.{sheetOf, Whole};
+ghost use Rattle.form.specs.Form.{slipFrom};
 ghost use Rattle.verify.specs.Check.{goalCount, wellFormed, isGoal};
 ghost use Rattle.claim.specs.Claim.{Closing, Asked};
 use lengths::Query;
@@ -155,7 +154,7 @@ fn all_required(header: Header, arcs: &[u32], marks: &[u8], goals: &[usize]) -> 
     ensures { λ r. ⌜ r ≡ every (λ x. member x (required (sheetOf header (now (arcs .entry)) (now (marks .entry))))) (now (goals .entry)) ⌝ }
 {
     let mut nodes = [0usize; 64];
-    let count = reader::required_nodes(header, arcs, marks, &mut nodes);
+    let count = required::required_nodes(header, arcs, marks, &mut nodes);
     all_listed(goals, &nodes[..count])
 }
 

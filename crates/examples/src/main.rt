@@ -107,21 +107,31 @@ fn show_reason(name: &[u8], sheet: &[u8], item: u32) {
     show_answer(&work, &slip, answer.number, answer.length);
 }
 
-// Prints whether check says yes to the slip of the line before.
-fn show_check(sheet: &[u8], slip: &[u8]) {
-    let mut work = [FILLED_NUMBER; WORK_LENT];
-    let answer = checker::check(sheet, &mut work, slip);
-    if answer.number == 0 && answer.yes {
+// Prints whether a check finished with yes.
+fn show_yes(number: u32, yes: bool) {
+    if number == 0 && yes {
         io::write_all(STDOUT_FILENO, b"  check: yes");
     } else {
         io::write_all(STDOUT_FILENO, b"  check: not yes");
     }
-    if is_work_all(&work, 0, WORK_NUMBERS, 0)
-        && is_work_all(&work, WORK_NUMBERS, WORK_LENT, FILLED_NUMBER)
+}
+
+// Prints what a check left.
+fn show_work_left(work: &[u32]) {
+    if is_work_all(work, 0, WORK_NUMBERS, 0)
+        && is_work_all(work, WORK_NUMBERS, WORK_LENT, FILLED_NUMBER)
     {
         io::write_all(STDOUT_FILENO, b"; rest untouched, work zero");
     }
     io::write_all(STDOUT_FILENO, b"\n");
+}
+
+// Prints whether check says yes to the slip of the line before.
+fn show_check(sheet: &[u8], slip: &[u8]) {
+    let mut work = [FILLED_NUMBER; WORK_LENT];
+    let answer = checker::check(sheet, &mut work, slip);
+    show_yes(answer.number, answer.yes);
+    show_work_left(&work);
 }
 
 // Prints what pass gives and what check says to its slip.
@@ -164,7 +174,7 @@ fn starred_rounds() {
     );
 }
 
-// The starred lines on which the round is refused.
+// The starred lines on which the round is refused and nothing is shut.
 fn starred_refusals() {
     show_checked(
         b"B with K 7",
@@ -182,6 +192,15 @@ fn starred_refusals() {
         b"\x03\x02\x01\x02\x00",
     );
     show_checked(
+        b"K 13, item 8 must",
+        b"\x04\x05\x00\x03\x0D\x00\x01\x04\x01\x03\x04\x00\x02\x03\x02\x03\x09\x01\x02\x01\x00\x00\x00\x00\x00\x00\x00\x00\x01",
+        b"\x02\x01\x08\x00",
+    );
+}
+
+// The starred lines on which the round is refused and something is shut.
+fn starred_closures() {
+    show_checked(
         b"K 14, places 1 and 2 must, item 8 shut",
         b"\x04\x05\x00\x03\x0E\x00\x01\x04\x01\x03\x04\x00\x02\x03\x02\x03\x09\x01\x02\x01\x00\x01\x01\x00\x00\x00\x00\x00\x02",
         b"\x03\x02\x01\x02\x01\x08",
@@ -195,11 +214,6 @@ fn starred_refusals() {
         b"Items 1 and 5 shut",
         b"\x04\x05\x00\x03\x08\x00\x01\x04\x01\x03\x04\x00\x02\x03\x02\x03\x09\x01\x02\x01\x00\x02\x00\x00\x00\x02\x00\x00\x00",
         b"\x01\x00\x01\x05",
-    );
-    show_checked(
-        b"K 13, item 8 must",
-        b"\x04\x05\x00\x03\x0D\x00\x01\x04\x01\x03\x04\x00\x02\x03\x02\x03\x09\x01\x02\x01\x00\x00\x00\x00\x00\x00\x00\x00\x01",
-        b"\x02\x01\x08\x00",
     );
 }
 
@@ -230,6 +244,10 @@ fn bad_sheets() {
         b"First number 80 00",
         b"\x80\x00\x05\x00\x03\x08\x00\x01\x04\x01\x03\x04\x00\x02\x03\x02\x03\x09\x01\x02\x01\x00\x00\x00\x00\x00\x00\x00\x00\x00",
     );
+}
+
+// Sheets with a number that is too large, or too many counted stops.
+fn large_sheets() {
     show_pass(
         b"Limit C1 84 3D",
         b"\x04\x05\x00\x03\xC1\x84\x3D\x00\x01\x04\x01\x03\x04\x00\x02\x03\x02\x03\x09\x01\x02\x01\x00\x00\x00\x00\x00\x00\x00\x00\x00",
@@ -265,8 +283,10 @@ fn bounds() {
 fn main() {
     starred_rounds();
     starred_refusals();
+    starred_closures();
     starred_reasons();
     bad_sheets();
+    large_sheets();
     bounds();
     show_short_slip();
 }

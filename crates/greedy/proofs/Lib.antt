@@ -1,4 +1,2 @@
-pub mod SameLaws
 pub mod ListingLaws
-pub mod TurnLaws
 pub mod ListedLaws

@@ -9,10 +9,10 @@ use lib.Dec.{eqb}
 use Rattle.walks.specs.Flat.{graphOf}
 use Rattle.walks.specs.Graph.{Graph, itemCount, closedIn, fits}
 use Rattle.rows.specs.Net.{arcCount}
-use Rattle.rows.proofs.ArcLaws.{arcs-count}
+use Rattle.walks.proofs.FlatLaws.{arcs-count}
 use Rattle.explain.specs.Reasons.{reasons}
 use Rattle.explain.proofs.ReasonLaws.{reasons-alike}
-use Rattle.greedy.specs.Turns.{Setting, fitsAt, State, Turned, PutDown, Begun, Listed}
+use Rattle.turns.specs.Turns.{Setting, fitsAt, State, Turned, PutDown, Begun, Listed}
 use Rattle.greedy.proofs.ListingLaws.{Listing, begun, passed-on, left-open, put-down, ended}
 
 pub listed-more : (n : ℕ) (xs : List ℕ) (to cap : ℕ) (goals starts marks₀ list₀ : List ℕ) {i : ℕ} {marks list : List ℕ} {m : ℕ} {marks′ list′ : List ℕ}

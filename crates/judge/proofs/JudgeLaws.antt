@@ -1,38 +1,25 @@
 -- From what the code finds to the verdict. Assumes nothing.
-use Prim.Native.Nat.{ℕ, zero, suc, _+_, _≤_, _<_}
+use Prim.Native.Nat.{ℕ, _+_, _≤_, _<_}
 use mathlib.Core.Path.{_≡_, refl, sym, ap, _∙_}
 use mathlib.Core.Bool.{Bool, true, false, not, _&&_}
 use mathlib.Core.List.{List, [], _∷_}
 use native.Mathlib.Omega.{arith}
-use lib.ListN.{length, getD, take, drop}
-use lib.Seq.{take-at, drop-drop}
+use lib.ListN.{length, getD, take}
 use lib.Dec.{eqb}
 use borrow.Author.Tests.{ne-eqb}
 use Rattle.sections.specs.declared.Header.{Header}
-use Rattle.lengths.specs.Table.{GoalsFit}
+use Rattle.table.specs.Table.{GoalsFit}
 use Rattle.lists.proofs.AscendLaws.{ascends-distinct, keep-none, keep-first, span-member}
 use Rattle.lists.proofs.MemberLaws.{keep-member, member-head}
-use Rattle.lists.proofs.Pigeonhole.{Below}
-use Rattle.lists.specs.Lists.{front}
-use Rattle.reader.specs.Answer.{sheetOf}
-use Rattle.rows.proofs.ArcLaws.{arcs-count}
+use Rattle.required.proofs.HeldLaws.{items-are, goals-at}
+use Rattle.required.specs.Held.{sheetOf, Whole}
 use Rattle.rows.specs.Net.{netOf}
 use Rattle.sheet.proofs.MarkLaws.{required-ascend, required-below, is-mandatory}
 use Rattle.sheet.specs.Sheet.{Sheet, isMandatory, allItems, required, markOf}
 use Rattle.verdict.specs.Verdict.{fitsSheet, unmet, verdictFrom, verdict}
 use Rattle.walks.specs.Flat.{graphOf}
 use Rattle.walks.specs.Graph.{itemCount}
-use Rattle.judge.specs.Ready.{Whole, Judged}
-
--- the items that the header counts
-pub items-are : {h : Header} {arcs marks : List ℕ} → Whole h arcs marks → itemCount (graphOf (h .nodes) arcs) ≡ h .nodes + h .arcs
-items-are {h} {arcs} W = let e = arcs-count arcs in omega (arith, e, W .held .0)
-
--- an entry of a list of small numbers
-pub goals-at : (n i : ℕ) (xs : List ℕ) → Below n xs → i < length xs → getD xs i 0 < n
-goals-at n i [] b l = absurd (omega arith)
-goals-at n zero (x ∷ xs) b l = b .0
-goals-at n (suc i) (x ∷ xs) b l = goals-at n i xs (b .1) (omega arith)
+use Rattle.judge.specs.Judged.{Judged}
 
 module _ {h : Header} {arcs marks : List ℕ} (W : Whole h arcs marks) where
   abbrev S : Sheet
@@ -78,17 +65,6 @@ module _ {h : Header} {arcs marks : List ℕ} (W : Whole h arcs marks) where
     below = λ i l. omega (arith, goals-at (h .nodes) i (required (sheetOf h arcs marks)) (required-below (sheetOf h arcs marks)) l);
     distinct = ascends-distinct (required (sheetOf h arcs marks)) (required-ascend (sheetOf h arcs marks));
   }
-
--- what stands in front is found there
-front-take : (xs d : List ℕ) (n : ℕ) → n ≡ length xs → take n (front xs d) ≡ xs
-front-take xs d n e = take-at xs (drop (length xs) d) n (sym e)
-
-pub listed-front : (xs out d : List ℕ) (n : ℕ) → (n ≡ length xs) × (out ≡ front xs d) → take n out ≡ xs
-listed-front xs out d n e = ap (take n) (e .1) ∙ front-take xs d n (e .0)
-
--- what is kept behind 3,072 numbers is kept behind 16,384
-pub drop-more : (xs ys : List ℕ) → drop 3072 xs ≡ drop 3072 ys → drop 16384 xs ≡ drop 16384 ys
-drop-more xs ys e = sym (drop-drop 13312 3072 xs) ∙ ap (drop 13312) e ∙ drop-drop 13312 3072 ys
 
 module _ (S : Sheet) where
   pub judged-one : (list : List ℕ) → fitsSheet S [] ≡ false → Judged S (record { number = 1; count = 0 }) list

@@ -1,5 +1,1 @@
-pub mod FitLaws
-pub mod RowsLaws
 pub mod JudgeLaws
-pub mod MarkingLaws
-pub mod LoadedLaws

@@ -1,4 +1,1 @@
-pub mod LooseLaws
-pub mod SetLaws
-pub mod TableLaws
 pub mod PartLaws

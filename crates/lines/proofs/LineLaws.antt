@@ -7,7 +7,7 @@ use native.Mathlib.Omega.{arith}
 use native.Mathlib.Numerals.{add-one}
 use lib.Dec.{ltb}
 use borrow.Author.Tests.{lt-ltb, le-ltb, ltb-true, ltb-false}
-use lib.ListN.{length, getD, set, take, drop, length-append, length-take}
+use lib.ListN.{length, getD, set, take, drop, length-append, length-take, length-set}
 use lib.Seq.{take-nil, take-suc, take-all}
 use Rattle.lists.specs.Lists.{pick, front}
 use Rattle.lists.proofs.FrontLaws.{length-front, push-at, part-front, Put, put}
@@ -170,6 +170,9 @@ module _ (word xs d : List ℕ) (fits : length (line word xs) ≤ length d) wher
 
   pub written-within : {out : List ℕ} {at : ℕ} → Put (word ++ row xs) d out at → at < length out
   written-within w = omega (arith, line-room, w .at-end, ap length (w .holds) ∙ length-front (word ++ row xs) d line-fits)
+
+  pub line-kept : {out : List ℕ} {at : ℕ} (x : ℕ) → Put (word ++ row xs) d out at → length (set out at x) ≡ length d
+  line-kept {out} {at} x w = length-set out at x ∙ ap length (w .holds) ∙ length-front (word ++ row xs) d line-fits
 
   pub line-done : (out : List ℕ) (at : ℕ) → Put (word ++ row xs) d out at → (at + 1 ≡ length (line word xs)) × (set out at 10 ≡ front (line word xs) d)
   unfolding line

@@ -8,18 +8,18 @@ use lib.ListN.{length, take}
 use Rattle.sections.specs.declared.Header.{Header}
 use Rattle.judge.specs.declared.Verdict.{Verdict}
 use Rattle.varint.specs.Answer.{small}
-use Rattle.judge.proofs.JudgeLaws.{items-are, goals-at, listed-front}
-use Rattle.judge.specs.Ready.{Judged, Whole}
-use Rattle.lengths.specs.Table.{GoalsFit}
+use Rattle.required.proofs.HeldLaws.{items-are, goals-at, listed-front}
+use Rattle.judge.specs.Judged.{Judged}
+use Rattle.required.specs.Held.{Whole, sheetOf}
+use Rattle.table.specs.Table.{GoalsFit}
 use Rattle.lists.proofs.AscendLaws.{ascends-distinct}
 use Rattle.lists.specs.Lists.{front}
-use Rattle.reader.specs.Answer.{sheetOf}
 use Rattle.rows.specs.Net.{netOf}
 use Rattle.sheet.proofs.SlipLaws.{Small, slip-size, numbers-below}
 use Rattle.sheet.specs.Sheet.{Sheet}
 use Rattle.sheet.specs.Slip.{Slip, slipNumbers, slipBytes, marksBytes}
-use Rattle.slip.proofs.FormLaws.{small-below}
-use Rattle.slip.specs.Form.{slipFrom}
+use Rattle.form.proofs.FormLaws.{small-below}
+use Rattle.form.specs.Form.{slipFrom}
 use Rattle.verdict.proofs.SlipOfPass.{marks-are, slip-small, verdict-goals, reasons-count}
 use Rattle.verdict.proofs.VerdictLaws.{refused-goals, verdict-low}
 use Rattle.verdict.specs.Verdict.{fitsSheet, verdict, newMarks, reasonsFor, slipFor, passSlip}

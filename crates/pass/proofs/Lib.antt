@@ -1,4 +1,3 @@
-pub mod SlipLaws
 pub mod OutcomeLaws
 pub mod PassLaws
 pub mod AnswerLaws

@@ -1,16 +1,14 @@
 // The pass (document 01): strikes off what no walk within the limit can use, or refuses the round and lists the closures to blame.
 ghost use mathlib.Core.Path.{_≡_};
 ghost use mathlib.Core.Bool.{false};
-ghost use mathlib.Core.List.{_∷_};
 ghost use Prim.Native.Nat.{_+_, _*_, _≤_};
-ghost use lib.ListN.{length, take, drop};
+ghost use lib.ListN.{length, drop};
 ghost use Rattle.lists.specs.Lists.{front};
 ghost use Rattle.rows.specs.Net.{netOf};
-ghost use Rattle.lengths.specs.Table.{GoalsFit};
-ghost use Rattle.verdict.specs.Verdict.{fitsSheet, newMarks, reasonsFor, passSlip, verdict as verdictOf};
+ghost use Rattle.table.specs.Table.{GoalsFit};
+ghost use Rattle.verdict.specs.Verdict.{fitsSheet, reasonsFor, passSlip, verdict as verdictOf};
 ghost use Rattle.verdict.specs.Pass.{passed};
-ghost use Rattle.reader.specs.Answer.{sheetOf};
-ghost use Rattle.judge.specs.Ready.{Whole, Rows};
+ghost use Rattle.required.specs.Held.{sheetOf, Whole};
 use lengths::Query;
 use reader::SheetRead;
 use sections::Header;
@@ -34,17 +32,6 @@ const ROW_LENGTH: usize = 64;
 pub struct Answer {
     pub number: u32,
     pub length: usize,
-}
-
-// Writes the slip of verdict 0, the number 0 and the new marks, over the front of `slip` and gives its length.
-fn write_stands(header: Header, arcs: &[u32], marks: &[u8], rows: &[u32], slip: &mut [u8]) -> usize
-    requires { ⌜ Rows header (now arcs) (now marks) (now rows) × (1200 ≤ length (now slip)) ⌝ }
-    ensures { λ r. ⌜ r ≡ length (0 ∷ newMarks (sheetOf header (now (arcs .entry)) (now (marks .entry)))) ⌝ }
-    ensures { λ _. ⌜ now (slip .exit) ≡ front (0 ∷ newMarks (sheetOf header (now (arcs .entry)) (now (marks .entry)))) (now (slip .entry)) ⌝ }
-{
-    slip[0] = 0;
-    judge::put_marks(header, arcs, marks, rows, &mut slip[1..]);
-    1 + header.nodes + header.arcs
 }
 
 // Writes the reasons for the goals over the front of `list` and gives their count.
@@ -85,11 +72,11 @@ fn write_answer(
     ensures { λ _. ⌜ drop 16384 (now (work .exit)) ≡ drop 16384 (now (work .entry)) ⌝ }
 {
     let mut rows = [0u32; TWO_ROWS];
-    judge::fill_rows(header, arcs, marks, &mut rows);
+    fits::fill_rows(header, arcs, marks, &mut rows);
     let mut goals = [0usize; ROW_LENGTH];
     let verdict = judge::judge(header, arcs, marks, &rows, &mut goals, work);
     if verdict.number == 0 {
-        return write_stands(header, arcs, marks, &rows, slip);
+        return marking::write_stands(header, arcs, marks, &rows, slip);
     }
     let count = verdict.count;
     let mut list = [0u32; ITEMS];

@@ -9,10 +9,9 @@ use borrow.Author.Tests.{lt-ltb, le-ltb}
 use Rattle.varint.specs.Varint.{Read, got, refuse}
 use Rattle.verify.specs.Check as check
 use Rattle.verify.specs.Check.{checkOn, checked}
-use Rattle.planner.specs.Lent.{zeroedBytes, bytesAfter}
-use Rattle.planner.specs.Left.{leftBytes}
+use Rattle.lent.specs.Bytes.{zeroedBytes, bytesAfter, leftBytes}
 use Rattle.planner.specs.Check.{Outcome, outcome, yesNumber, checkedBytes}
-use Rattle.planner.proofs.LeftLaws.{left-finished, left-refused}
+use Rattle.lent.proofs.BytesLaws.{left-finished, left-refused}
 
 -- yes or no, or one of the refusals 1 to 18
 abbrev pub Drawn : Read Bool → Type 0

@@ -11,10 +11,9 @@ use borrow.Author.Tests.{lt-ltb, le-ltb}
 use Rattle.lists.specs.Lists.{pick, front}
 use Rattle.verdict.specs.Pass as pass
 use Rattle.verdict.specs.Pass.{Answer, finished, refused}
-use Rattle.planner.specs.Lent.{zeroedBytes, bytesAfter}
-use Rattle.planner.specs.Left.{leftBytes}
+use Rattle.lent.specs.Bytes.{zeroedBytes, bytesAfter, leftBytes}
 use Rattle.planner.specs.Layer.{Outcome, outcome, lentEnough}
-use Rattle.planner.proofs.LeftLaws.{left-finished, left-refused}
+use Rattle.lent.proofs.BytesLaws.{left-finished, left-refused}
 
 -- a slip of at most 1,200 bytes, or one of the refusals 1 to 16
 abbrev pub Within : Answer → Type 0

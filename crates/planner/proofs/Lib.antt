@@ -1,4 +1,3 @@
-pub mod LeftLaws
 pub mod LayerLaws
 pub mod WithinLaws
 pub mod CheckLaws

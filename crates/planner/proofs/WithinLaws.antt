@@ -6,8 +6,8 @@ use mathlib.Core.List.{List, [], _∷_}
 use native.Mathlib.Omega.{arith}
 use lib.Dec.{leb, ltb}
 use Rattle.lists.specs.Lists.{pick}
-use Rattle.reason.proofs.AnswerLaws.{reason-slip-size}
-use Rattle.reason.specs.Reason.{prunes, reasonIn, reasonOn}
+use Rattle.blame.proofs.AnswerLaws.{reason-slip-size}
+use Rattle.blame.specs.Reason.{prunes, reasonIn, reasonOn}
 use Rattle.sheet.proofs.RefusalLaws.{taken-refuses}
 use Rattle.sheet.specs.Sheet.{Sheet}
 use Rattle.sheet.specs.Slip.{Slip, slipBytes, readSlip, slipGoals, as17}

@@ -1,5 +1,3 @@
-pub mod Lent
 pub mod Layer
 pub mod Check
-pub mod Left
 pub mod Copied

@@ -5,45 +5,13 @@
 // the numbers out would give are the laws `pass-copied`, `reason-copied` and `check-copied`.
 ghost use mathlib.Core.Path.{_≡_};
 ghost use Prim.Native.Nat.{_+_, _*_, _≤_};
-ghost use lib.ListN.{length};
-ghost use Rattle.planner.specs.Lent.{workBytes, zeroedBytes};
 ghost use Rattle.planner.specs.Layer.{passedBytes, reasonedBytes};
 ghost use Rattle.planner.specs.Check.{yesNumber, checkedBytes};
-ghost use Rattle.planner.specs.Left.{leftBytes};
 
 const WORK_BYTES: usize = 65536;
 
 // What a refusal number counts in the one number of a call.
 const REFUSAL: u32 = 65536;
-
-// The last refusal that leaves the work as found.
-const LAST_UNTOUCHED: u32 = 13;
-
-// Leaves the first 65,536 work bytes zero and the rest as found.
-fn zero(work: &mut [u8])
-    requires { ⌜ workBytes ≤ length (now work) ⌝ }
-    ensures { λ _. ⌜ now (work .exit) ≡ zeroedBytes (now (work .entry)) ⌝ }
-{
-    let mut i: usize = 0;
-    while i < WORK_BYTES {
-        work[i] = 0;
-        i += 1;
-    }
-}
-
-// Leaves the work bytes as a call with this refusal number does, 0 where it finished.
-fn leave(work: &mut [u8], number: u32)
-    requires { ⌜ workBytes ≤ length (now work) ⌝ }
-    ensures { λ _. ⌜ now (work .exit) ≡ leftBytes number (now (work .entry)) ⌝ }
-{
-    if number == 0 {
-        zero(work);
-        return;
-    }
-    if number > LAST_UNTOUCHED {
-        zero(work);
-    }
-}
 
 // The one number of a call: the refusal and the slip's length, or 1 for yes.
 fn one_number(number: u32, length: usize) -> u32
@@ -70,7 +38,7 @@ pub extern "C" fn ways_pass(sheet: &[u8], work: &mut [u8], slip: &mut [u8]) -> u
     }
     let mut numbers = [0u32; pass::WORK_NUMBERS];
     let answer = pass::pass(sheet, &mut numbers, slip);
-    leave(work, answer.number);
+    lent::leave(work, answer.number);
     one_number(answer.number, answer.length)
 }
 
@@ -84,7 +52,7 @@ pub extern "C" fn ways_reason(sheet: &[u8], work: &mut [u8], slip: &mut [u8], it
     }
     let mut numbers = [0u32; pass::WORK_NUMBERS];
     let answer = reason::reason(sheet, &mut numbers, slip, item);
-    leave(work, answer.number);
+    lent::leave(work, answer.number);
     one_number(answer.number, answer.length)
 }
 
@@ -98,6 +66,6 @@ pub extern "C" fn ways_check(sheet: &[u8], work: &mut [u8], slip: &[u8]) -> u32
     }
     let mut numbers = [0u32; pass::WORK_NUMBERS];
     let answer = checker::check(sheet, &mut numbers, slip);
-    leave(work, answer.number);
+    lent::leave(work, answer.number);
     one_number(answer.number, yes_number(answer.yes))
 }

@@ -1,3 +1,2 @@
-pub mod RequiredLaws
 pub mod TakenLaws
-pub mod ViewLaws
+pub mod LoadedLaws

@@ -17,10 +17,11 @@ use Rattle.reader.specs.declared.SheetRead.{SheetRead}
 use Rattle.reader.specs.declared.SheetRead.the-variants.{Taken, Refused}
 use Rattle.sheet.specs.Sheet.{Sheet, required}
 use Rattle.sheet.specs.Reader.{readArc, readMark, readArcs, readMarks, complete, readLimit, readTarget, readSource, readArcCount, readSheet, taken}
-use Rattle.varint.specs.Begun.{ahead, begun}
-use Rattle.varint.proofs.SeveralLaws.{several-read}
+use Rattle.numbers.specs.Begun.{ahead, begun}
+use Rattle.numbers.proofs.SeveralLaws.{several-read}
 use Rattle.sections.specs.Sections.{headerLimit, headerTarget, headerSource, headerArcs, readHeader}
-use Rattle.reader.specs.Answer.{headerOf, answered, behind, arcsBehind, marksBehind, sheetOf, arcsBegun, marksBegun}
+use Rattle.reader.specs.Answer.{headerOf, answered, behind, arcsBehind, marksBehind, arcsBegun, marksBegun}
+use Rattle.required.specs.Held.{sheetOf}
 
 -- `readSheet` reads its header first
 after-after : {A B C : Type 0} (r : Read A) (f : A → List ℕ → Read B) (g : B → List ℕ → Read C) → after (after r f) g ≡ after r (λ a bs. after (f a bs) g)

@@ -1,33 +1,16 @@
 -- What the reader's answer stands for in document 01, and what a read leaves in the arrays that it is lent.
-use Prim.Native.Nat.{ℕ, _+_, _*_, _<_}
-use mathlib.Core.Path.{_≡_}
+use Prim.Native.Nat.{ℕ, _+_}
 use mathlib.Core.List.{List}
-use lib.ListN.{length, getD}
-use lib.Dec.{eqb}
+use lib.ListN.{length}
 use Rattle.varint.specs.Varint.{Read, got, refuse, several}
 use Rattle.walks.specs.Graph.{Arc}
-use Rattle.walks.specs.Flat.{graphOf}
-use Rattle.sheet.specs.Sheet.{Sheet, endsMandatory, allArcs}
+use Rattle.sheet.specs.Sheet.{Sheet}
 use Rattle.sheet.specs.Reader.{readArc, readMark, readArcs}
 use Rattle.sections.specs.declared.Header.{Header}
-use Rattle.varint.specs.Begun.{ahead, begun}
+use Rattle.numbers.specs.Begun.{ahead, begun}
 use Rattle.sections.specs.Sections.{readHeader}
 use Rattle.reader.specs.declared.SheetRead.{SheetRead}
 use Rattle.reader.specs.declared.SheetRead.the-variants.{Taken, Refused}
-
--- the sheet that the five numbers, the arcs' numbers and the marks make
-abbrev pub sheetOf : Header → List ℕ → List ℕ → Sheet
-sheetOf h arcs marks =
-    record { graph = graphOf (h .nodes) arcs; source = h .source; target = h .target; limit = h .limit; marks = marks }
-
--- as many numbers as the header says
-abbrev pub Held : Header → List ℕ → List ℕ → Type 0
-Held h arcs marks = (length arcs ≡ 3 * h .arcs) × (length marks ≡ h .nodes + h .arcs)
-
--- a 1 for each of the first 64 nodes that ends a mandatory arc
-pub record Ends (S : Sheet) (ends : List ℕ) : Type 0 where
-  pub size : length ends ≡ 64
-  pub each : (p : ℕ) → p < 64 → eqb (getD ends p 0) 1 ≡ endsMandatory S p (allArcs (S .graph))
 
 -- the whole sheet: its five numbers, or the refusal
 unfoldable pub headerOf : Sheet → Header

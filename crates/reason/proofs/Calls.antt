@@ -17,8 +17,8 @@ use Rattle.verdict.proofs.AcceptedLaws.{accepted-taken, accepted-got}
 use Rattle.verdict.specs.Accepted.{accepted}
 use Rattle.verdict.specs.Pass.{finished, answerOf, outcome, lentEnough}
 use Rattle.reason.proofs.SaidLaws.{item-late}
-use Rattle.reason.specs.Later.{Explains}
-use Rattle.reason.specs.Reason.{reasonIn, reasonOn, reasoned}
+use Rattle.blame.specs.Later.{Explains}
+use Rattle.blame.specs.Reason.{reasonIn, reasonOn, reasoned}
 
 -- a call that answers 0: the sheet is accepted, and the stated slip stands in front
 pub record Finished (sheet work slip : List ℕ) (i : ℕ) : Type 0 where

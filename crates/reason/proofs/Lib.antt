@@ -1,6 +1,3 @@
-pub mod AnswerLaws
-pub mod Demand3
-pub mod Star
 pub mod ItemLaws
 pub mod SaidLaws
 pub mod Calls

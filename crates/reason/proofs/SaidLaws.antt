@@ -18,7 +18,7 @@ use Rattle.verdict.proofs.AcceptedLaws.{accepted-taken}
 use Rattle.verdict.specs.Pass.{refused, answerOf, outcome, lentEnough}
 use Rattle.verdict.specs.Verdict.{slipFor}
 use Rattle.walks.specs.Graph.{itemCount}
-use Rattle.reason.specs.Reason.{prunes, reasonIn, reasonOn}
+use Rattle.blame.specs.Reason.{prunes, reasonIn, reasonOn}
 use Rattle.reason.specs.Said.{Says, refuses, writes}
 
 pub bad-sheet : (sheet : List ℕ) (i w : ℕ) → taken sheet ≡ refuse w → reasonOn sheet i ≡ refused w

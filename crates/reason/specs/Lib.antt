@@ -1,3 +1,1 @@
-pub mod Reason
-pub mod Later
 pub mod Said

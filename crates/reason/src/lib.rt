@@ -2,9 +2,8 @@
 ghost use mathlib.Core.Path.{_≡_};
 ghost use Prim.Native.Nat.{_+_, _≤_, _<_};
 ghost use lib.ListN.{length, drop};
-ghost use Rattle.reader.specs.Answer.{sheetOf};
-ghost use Rattle.judge.specs.Ready.{Whole};
-ghost use Rattle.reason.specs.Reason.{prunes, reasoned};
+ghost use Rattle.required.specs.Held.{sheetOf, Whole};
+ghost use Rattle.blame.specs.Reason.{prunes, reasoned};
 ghost use Rattle.reason.specs.Said.{Says};
 use pass::Answer;
 use reader::SheetRead;
@@ -26,7 +25,7 @@ fn is_pruned(header: Header, arcs: &[u32], marks: &[u8], work: &mut [u32], item:
     ensures { λ _. ⌜ drop 16384 (now (work .exit)) ≡ drop 16384 (now (work .entry)) ⌝ }
 {
     let mut rows = [0u32; TWO_ROWS];
-    judge::fill_rows(header, arcs, marks, &mut rows);
+    fits::fill_rows(header, arcs, marks, &mut rows);
     let mut goals = [0usize; ROW_LENGTH];
     let verdict = judge::judge(header, arcs, marks, &rows, &mut goals, work);
     if verdict.number != 0 {
@@ -35,7 +34,7 @@ fn is_pruned(header: Header, arcs: &[u32], marks: &[u8], work: &mut [u32], item:
     if marks[item] != OPEN {
         return false;
     }
-    !judge::fits_item(header, arcs, marks, &rows, item)
+    !fits::fits_item(header, arcs, marks, &rows, item)
 }
 
 // The answer for an item of a taken sheet: 15, 16, or its slip over the front of `slip`.

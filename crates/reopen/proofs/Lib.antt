@@ -1,5 +1,3 @@
-pub mod CopyLaws
-pub mod PartLaws
 pub mod PackOpened
 pub mod ArcOpened
 pub mod RowsOpened

@@ -10,7 +10,7 @@ use lib.Seq.{getD-take, length-take-le}
 use Rattle.walks.specs.Graph.{closedIn}
 use Rattle.rows.specs.Net.{Net, netOf, count, arcCount, tailIn, headIn, weightIn, Proper, Open, SameArc, PackedTo, Packed}
 use Rattle.rows.proofs.ArcLaws.{written, written-before, written-tail, written-head, written-weight}
-use Rattle.rows.proofs.PackLaws.{pack-done}
+use Rattle.arcs.proofs.PackLaws.{pack-done}
 use Rattle.walks.proofs.OpenedLaws.{open-same, open-other, opens}
 
 -- a list that holds the open arcs in its first c places

@@ -1,50 +1,22 @@
+// A forbidden item opened: the arcs packed and the rows mended for it.
 ghost use mathlib.Core.Path.{_≡_};
-ghost use mathlib.Core.Bool.{Bool, true, false};
+ghost use mathlib.Core.Bool.{true, false};
 ghost use mathlib.Core.List.{List};
 ghost use Prim.Native.Nat.{ℕ, _+_, _*_, _≤_, _<_};
 ghost use lib.ListN.{length, getD, take, drop, set};
 ghost use Rattle.walks.specs.Graph.{closedIn};
 ghost use Rattle.rows.specs.Held.{missing};
-ghost use Rattle.rows.specs.Net.{Net, netOf, arcCount, tailIn, headIn, weightIn, Proper, Joins, Packed};
+ghost use Rattle.rows.specs.Net.{Net, netOf, arcCount, Proper, Joins, Packed};
 ghost use Rattle.rows.specs.Rows.{Tried, RowIs, RowsAre, RowsSound, StartsOf, StartsFit};
 ghost use Rattle.spread.specs.Arcs.{Chained};
-ghost use Rattle.reopen.specs.Openings.{Untouched, Unmoved, UnmovedRow, LinkOf, ArcOpened, Opened, Beside, Reopened, ItemOpened};
+ghost use Rattle.reopen.specs.Openings.{Untouched, LinkOf, ArcOpened, Opened, Beside, Reopened, ItemOpened};
 use spread::Mend;
 
 // The mark of a forbidden item.
 const FORBIDDEN: u8 = 2;
 
-// Where things lie in the work: the rows of 64 numbers each from 0 on, the node where each goal is entered, and the rows as they were before an
-// item was opened.
+// The numbers of a row, one for each node.
 const ROW_LENGTH: usize = 64;
-
-const ENTRIES: usize = 576;
-
-const SAVED: usize = 3072;
-
-// Keeps the first `n` numbers of the work.
-fn save(work: &mut [u32], n: usize)
-    requires { ⌜ (n ≤ 576) × (length (now work) ≡ 3648) ⌝ }
-    ensures { λ _. ⌜ ((j : ℕ) → j < n → getD (now (work .exit)) (3072 + j) 0 ≡ getD (now (work .entry)) j 0) × ((j : ℕ) → j < 3072 → getD (now (work .exit)) j 0 ≡ getD (now (work .entry)) j 0) ⌝ }
-{
-    let mut i = 0;
-    while i < n {
-        work[SAVED + i] = work[i];
-        i += 1;
-    }
-}
-
-// Puts the kept numbers back.
-pub fn restore(work: &mut [u32], n: usize)
-    requires { ⌜ (n ≤ 576) × (length (now work) ≡ 3648) ⌝ }
-    ensures { λ _. ⌜ ((j : ℕ) → j < n → getD (now (work .exit)) j 0 ≡ getD (now (work .entry)) (3072 + j) 0) ⌝ }
-{
-    let mut i = 0;
-    while i < n {
-        work[i] = work[SAVED + i];
-        i += 1;
-    }
-}
 
 // An arc's ends and weight.
 pub struct Link {
@@ -88,46 +60,6 @@ fn cuts_any(work: &[u32], rows: usize, arc: Link, cap: u32) -> bool
             weight: arc.weight,
         };
         if cuts(&work[at..at + ROW_LENGTH], link, cap) {
-            return true;
-        }
-        i += 1;
-    }
-    false
-}
-
-// Whether an entry of the row at one of the stops is another than it was.
-fn moved_row(old: &[u32], row: &[u32], stops: &[u32]) -> bool
-    requires { ⌜ (length (now old) ≡ 64) × (length (now row) ≡ 64) × ((i : ℕ) → i < length (now stops) → getD (now stops) i 0 < 64) ⌝ }
-    ensures { λ r. ⌜ (r ≡ false → UnmovedRow (now (old .entry)) (now (row .entry)) (now (stops .entry)) (length (now (stops .entry)))) ⌝ }
-{
-    let mut i = 0;
-    while i < stops.len() {
-        let v = stops[i] as usize;
-        if old[v] != row[v] {
-            return true;
-        }
-        i += 1;
-    }
-    false
-}
-
-// Whether an entry that matters, at the target or where a goal is entered, is another than the kept one in any of the rows.
-pub fn moved(work: &[u32], rows: usize, count: usize, to: usize) -> bool
-    requires { ⌜ (length (now work) ≡ 3648) × (rows ≤ 9) × (count ≤ 8) × (to < 64) × ((i : ℕ) → i < count → getD (now work) (576 + i) 0 < 64) ⌝ }
-    ensures { λ r. ⌜ (r ≡ false → Unmoved (now (work .entry)) rows count to) ⌝ }
-{
-    let mut i = 0;
-    while i < rows {
-        let at = i * ROW_LENGTH;
-        let kept = SAVED + at;
-        if work[kept + to] != work[at + to] {
-            return true;
-        }
-        if moved_row(
-            &work[kept..kept + ROW_LENGTH],
-            &work[at..at + ROW_LENGTH],
-            &work[ENTRIES..ENTRIES + count],
-        ) {
             return true;
         }
         i += 1;
@@ -189,7 +121,7 @@ pub fn pack_opened(
             return add_arc(nodes, arcs, marks, packed, item - nodes, c);
         }
     }
-    rows::pack(nodes, arcs, marks, packed) / 3
+    arcs::pack(nodes, arcs, marks, packed) / 3
 }
 
 // Mends a row where the opened arc cuts an entry of it.
@@ -292,7 +224,7 @@ fn open_node(
     ensures { λ _. ⌜ ((n i : ℕ) (xs old : List ℕ) → Opened n xs old i (now (marks .entry)) (now (packed .entry)) (now (starts .entry)) → RowsAre (netOf n xs old) cap (now (starts .entry)) (length (now (starts .entry))) (now (work .entry)) → Reopened n xs old (now (marks .entry)) cap (now (starts .entry)) (now (work .exit))) ⌝ }
     ensures { λ _. ⌜ Beside (now (starts .entry)) (now (work .entry)) (now (work .exit)) ⌝ }
 {
-    save(work, starts.len() * ROW_LENGTH);
+    kept::save(work, starts.len() * ROW_LENGTH);
     mend_rows(packed, marks, starts, work, entering(packed, node), cap);
 }
 
@@ -303,7 +235,7 @@ fn open_arc(packed: &[u32], marks: &[u8], starts: &[usize], work: &mut [u32], ar
     ensures { λ _. ⌜ ((n l : ℕ) (xs old : List ℕ) → Opened n xs old (n + l) (now (marks .entry)) (now (packed .entry)) (now (starts .entry)) → LinkOf xs l (arc .tail) (arc .head) (arc .weight) → RowsAre (netOf n xs old) cap (now (starts .entry)) (length (now (starts .entry))) (now (work .entry)) → Reopened n xs old (now (marks .entry)) cap (now (starts .entry)) (now (work .exit))) ⌝ }
     ensures { λ _. ⌜ Beside (now (starts .entry)) (now (work .entry)) (now (work .exit)) ⌝ }
 {
-    save(work, starts.len() * ROW_LENGTH);
+    kept::save(work, starts.len() * ROW_LENGTH);
     mend_cut(packed, marks, starts, work, arc, cap);
 }
 

@@ -19,7 +19,7 @@ use Rattle.verdict.specs.Verdict.{verdict, passSlip}
 use Rattle.verdict.proofs.AcceptedLaws.{accepted-taken}
 use Rattle.lines.specs.Lines.{line}
 use Rattle.lines.proofs.LineLaws.{line-size}
-use Rattle.report.specs.Text.{refusedWord, slipText, text, answer}
+use Rattle.answer.specs.Text.{refusedWord, slipText, text, answer}
 
 -- a refusal of the sheet is one of 3 to 13
 pass-refuses : (sheet : List ℕ) (x : ℕ) → passOn sheet ≡ refused x → Among x
@@ -46,11 +46,14 @@ answer-finishes sheet work bs e = go (ltb (length work) workNumbers) e
     go true z = absurd (let y : _≡_ {A = ℕ} 0 1 = cc in omega arith)
     go false z = z
 
+-- a line of one number fits
+pub line-fits : (word : List ℕ) (x : ℕ) (out : List ℕ) → length word ≤ 100 → 8192 ≤ length out → length (line word (x ∷ [])) ≤ length out
+line-fits word x out h room = omega (arith, line-size word (x ∷ []))
+
 -- a refused call
 pub record Refused (sheet work : List ℕ) (n : ℕ) : Type 0 where
   pub high : n ≤ 13
   pub printed : text sheet (answer sheet work) ≡ line refusedWord (n ∷ [])
-  pub room : length (line refusedWord (n ∷ [])) ≤ 8192
 
 -- a finished call, by the first l bytes of the lent slip
 pub record Finished (sheet work s : List ℕ) (l : ℕ) : Type 0 where
@@ -80,7 +83,7 @@ module _ (sheet work d : List ℕ) (long : 1200 ≤ length d) (n l : ℕ) (w s :
       go (finished bs) q z = absurd (omega (arith, z))
       go (refused x) q z =
           let y : answer sheet work ≡ refused n = q ∙ ap refused (sym z) in
-          record { high = answer-refuses sheet work n y .1; printed = rw y; room = omega (arith, line-size refusedWord (n ∷ [])) }
+          record { high = answer-refuses sheet work n y .1; printed = rw y }
 
   pub finished-call : n ≤ 0 → Finished sheet work s l
   unfolding outcome text

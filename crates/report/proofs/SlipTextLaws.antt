@@ -21,16 +21,16 @@ use Rattle.sheet.specs.Sheet.{Sheet}
 use Rattle.sheet.specs.Slip.{Slip, slipBytes, readSlip}
 use Rattle.sheet.proofs.SheetLaws.{taken-got, taken-good}
 use Rattle.sheet.proofs.SlipLaws.{Small, slip-back}
-use Rattle.slip.specs.declared.SlipForm.{SlipForm}
-use Rattle.slip.specs.declared.SlipRead.the-variants.{Formed, Unformed}
-use Rattle.slip.specs.Form.{slipFrom, valuesAt, slipOf, SlipCounts}
-use Rattle.slip.proofs.FormLaws.{small-below}
+use Rattle.form.specs.declared.SlipForm.{SlipForm}
+use Rattle.form.specs.declared.SlipRead.the-variants.{Formed, Unformed}
+use Rattle.form.specs.Form.{slipFrom, valuesAt, slipOf, SlipCounts}
+use Rattle.form.proofs.FormLaws.{small-below}
 use Rattle.verdict.specs.Pass.{finished, answerOf, passOn, verdictIn, markIn}
 use Rattle.verdict.specs.Verdict.{verdict, slipFor, passSlip}
 use Rattle.verdict.proofs.AcceptedLaws.{accepted-taken}
 use Rattle.verdict.proofs.SlipOfPass.{PassSlipIs, marks, blames, pass-slip-is, slip-first, new-marks-size}
-use Rattle.report.specs.Text.{newlyForbidden, standsText, blameText, marksOf, blamed, slipText}
-use Rattle.report.proofs.LineParts.{stands-size, blame-size}
+use Rattle.answer.specs.Text.{newlyForbidden, standsText, blameText, marksOf, blamed, slipText}
+use Rattle.answer.proofs.LineParts.{stands-size, blame-size}
 
 -- a sheet on which the pass finishes with this slip
 pub record Passed (sheet slip : List ℕ) : Type 0 where

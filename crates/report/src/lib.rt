@@ -1,17 +1,13 @@
-// What the pass answers to a sheet, as the text that the program prints (document 01, 'The sheet B and what it gives', last paragraph).
+// What the program prints for a sheet (document 01, 'The sheet B and what it gives', last paragraph).
 ghost use mathlib.Core.Path.{_≡_};
-ghost use mathlib.Core.Bool.{true, _&&_};
 ghost use mathlib.Core.List.{[]};
 ghost use Prim.Native.Nat.{_≤_, _<_};
 ghost use lib.ListN.{length, take};
-ghost use lib.Dec.{eqb};
 ghost use Rattle.lists.specs.Lists.{front};
-ghost use Rattle.varint.specs.Answer.{small};
-ghost use Rattle.slip.specs.Form.{slipFrom};
 ghost use Rattle.verdict.specs.Pass.{finished, outcome, passOn, verdictIn};
-ghost use Rattle.report.specs.Text.{newlyForbidden, standsText, blameText, slipText, text, answer as answerTo};
+ghost use Rattle.answer.specs.Text.{slipText, text, answer as answerTo};
+use form::SlipRead;
 use reader::SheetRead;
-use slip::SlipRead;
 
 // The most numbers of a sheet's arcs, the most items and the most goals.
 const ARC_NUMBERS: usize = 1536;
@@ -21,51 +17,6 @@ const ITEMS: usize = 576;
 const GOALS: usize = 8;
 
 const SLIP_BYTES: usize = 1200;
-
-// Whether an item is newly forbidden, by its marks on the sheet and in the slip.
-fn is_new(before: u8, after: u8) -> bool
-    ensures { λ r. ⌜ r ≡ (eqb before 0 && eqb after 2) ⌝ }
-{
-    before == 0 && after == 2
-}
-
-// Writes the items newly forbidden, ascending, over the front of `list` and gives their count.
-fn newly_forbidden(marks: &[u8], slip: &[u8], list: &mut [usize]) -> usize
-    requires { ⌜ (length (now marks) < length (now slip)) × (length (now marks) ≤ length (now list)) ⌝ }
-    ensures { λ r. ⌜ (r ≡ length (newlyForbidden (now (marks .entry)) (now (slip .entry)))) × (now (list .exit) ≡ front (newlyForbidden (now (marks .entry)) (now (slip .entry))) (now (list .entry))) ⌝ }
-{
-    let mut count: usize = 0;
-    let mut i: usize = 0;
-    while i < marks.len() {
-        if is_new(marks[i], slip[i + 1]) {
-            list[count] = i;
-            count += 1;
-        }
-        i += 1;
-    }
-    count
-}
-
-// Writes the text of verdict 0.
-fn put_stands(out: &mut [u8], struck: &[usize]) -> usize
-    requires { ⌜ (small (now struck) ≡ true) × (length (standsText (now struck)) ≤ length (now out)) ⌝ }
-    ensures { λ r. ⌜ (r ≡ length (standsText (now (struck .entry)))) × (now (out .exit) ≡ front (standsText (now (struck .entry))) (now (out .entry))) ⌝ }
-{
-    let verdict = [0usize; 1];
-    let at = lines::put_line(out, b"verdict", &verdict);
-    at + lines::put_line(&mut out[at..], b"struck", struck)
-}
-
-// Writes the text of a refused round.
-fn put_blame(out: &mut [u8], first: usize, goals: &[usize], reasons: &[usize]) -> usize
-    requires { ⌜ (first < 5) × (small (now goals) ≡ true) × (small (now reasons) ≡ true) × (length (blameText (slipFrom first (now goals) (now reasons))) ≤ length (now out)) ⌝ }
-    ensures { λ r. ⌜ (r ≡ length (blameText (slipFrom first (now (goals .entry)) (now (reasons .entry))))) × (now (out .exit) ≡ front (blameText (slipFrom first (now (goals .entry)) (now (reasons .entry)))) (now (out .entry))) ⌝ }
-{
-    let verdict = [first];
-    let at = lines::put_line(out, b"verdict", &verdict);
-    let end = at + lines::put_line(&mut out[at..], b"needs", goals);
-    end + lines::put_line(&mut out[end..], b"because", reasons)
-}
 
 // Writes the text of a slip of verdict 0, with the marks read from the sheet.
 fn write_stands(sheet: &[u8], slip: &[u8], out: &mut [u8]) -> usize
@@ -80,8 +31,8 @@ fn write_stands(sheet: &[u8], slip: &[u8], out: &mut [u8]) -> usize
     };
     let items = header.nodes + header.arcs;
     let mut list = [0usize; ITEMS];
-    let count = newly_forbidden(&marks[..items], slip, &mut list);
-    put_stands(out, &list[..count])
+    let count = answer::newly_forbidden(&marks[..items], slip, &mut list);
+    answer::put_stands(out, &list[..count])
 }
 
 // Writes the text of a slip that blames closures.
@@ -89,17 +40,17 @@ fn write_blame(sheet: &[u8], slip: &[u8], out: &mut [u8]) -> usize
     requires { ⌜ (passOn (now sheet) ≡ finished (now slip)) × (0 < verdictIn (now slip)) × (8192 ≤ length (now out)) ⌝ }
     ensures { λ r. ⌜ (r ≡ length (slipText (now (sheet .entry)) (now (slip .entry)))) × (now (out .exit) ≡ front (slipText (now (sheet .entry)) (now (slip .entry))) (now (out .entry))) ⌝ }
 {
-    let form = match slip::judge_slip(slip) {
+    let form = match form::judge_slip(slip) {
         SlipRead::Formed(form) => form,
         SlipRead::Unformed => return 0,
     };
     let goal_count = form.goals as usize;
     let reason_count = form.reasons as usize;
     let mut goals = [0usize; GOALS];
-    varint::numbers_at(slip, form.goals_at, goal_count, &mut goals);
+    numbers::numbers_at(slip, form.goals_at, goal_count, &mut goals);
     let mut reasons = [0usize; ITEMS];
-    varint::numbers_at(slip, form.reasons_at, reason_count, &mut reasons);
-    put_blame(
+    numbers::numbers_at(slip, form.reasons_at, reason_count, &mut reasons);
+    answer::put_blame(
         out,
         form.first as usize,
         &goals[..goal_count],

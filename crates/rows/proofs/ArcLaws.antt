@@ -1,7 +1,7 @@
 -- The arcs of a graph, as the code reads them from one list. Assumes nothing.
-use Prim.Native.Nat.{ℕ, zero, suc, _+_, _-_, _*_, _/_, _≤_, _<_}
+use Prim.Native.Nat.{ℕ, _+_, _-_, _*_, _≤_, _<_}
 use mathlib.Core.Path.{_≡_, refl, sym, ap, _∙_, subst}
-use mathlib.Core.List.{List, [], _∷_}
+use mathlib.Core.List.{List}
 use native.Mathlib.Omega.{arith}
 use lib.ListN.{length, getD, set, length-set}
 use lib.Seq.{getD-set-same, getD-set-other}
@@ -9,31 +9,11 @@ use lib.Dec.{ltb}
 use mathlib.Core.Bool.{Bool, true, false}
 use borrow.Author.Tests.{le-ltb, ltb-true, ltb-false}
 use Rattle.walks.proofs.GoalLaws.{Item, node, arc, entry-node}
-use Rattle.walks.specs.Flat.{arcsOf}
+use Rattle.walks.proofs.FlatLaws.{arcs-count, arc-at}
 use Rattle.walks.specs.Goals.{entryOf, exitOf, over, ownOf}
-use Rattle.walks.specs.Graph.{Arc, noArc, tailOf, headOf, weightOf, arcItem}
+use Rattle.walks.specs.Graph.{Arc, tailOf, headOf, weightOf, arcItem}
 use Rattle.walks.specs.Lengths.{none, some}
 use Rattle.rows.specs.Net.{Net, graph, closed, count, tailIn, headIn, weightIn, tailAt, headAt, weightAt, Proper}
-
-pub arcs-count : (xs : List ℕ) → length (arcsOf xs) ≡ length xs / 3
-unfolding arcsOf
-arcs-count [] = refl
-arcs-count (t ∷ []) = refl
-arcs-count (t ∷ h ∷ []) = refl
-arcs-count (t ∷ h ∷ w ∷ xs) = omega (arith, arcs-count xs)
-
-arc-at : (xs : List ℕ) (i : ℕ) → i < length xs / 3
-    → getD (arcsOf xs) i noArc ≡ record { tail = getD xs (i * 3) 0; head = getD xs (i * 3 + 1) 0; weight = getD xs (i * 3 + 2) 0 }
-unfolding arcsOf
-arc-at [] i q = absurd (omega arith)
-arc-at (t ∷ []) i q = absurd (omega arith)
-arc-at (t ∷ h ∷ []) i q = absurd (omega arith)
-arc-at (t ∷ h ∷ w ∷ xs) zero q = refl
-arc-at (t ∷ h ∷ w ∷ xs) (suc i) q =
-    let p : suc i * 3 ≡ suc (suc (suc (i * 3))) = omega arith in
-    let p₁ : suc i * 3 + 1 ≡ suc (suc (suc (i * 3 + 1))) = omega arith in
-    let p₂ : suc i * 3 + 2 ≡ suc (suc (suc (i * 3 + 2))) = omega arith in
-    rw (p₁, p₂, p) (arc-at xs i (omega arith))
 
 module _ (N : Net) (i : ℕ) (h : i < count N) where
   pub tail-at : tailOf (graph N) i ≡ tailAt N i

@@ -2,5 +2,4 @@ pub mod HeldLaws
 pub mod ArcLaws
 pub mod OpenLaws
 pub mod RowLaws
-pub mod PackLaws
 pub mod WorkLaws

@@ -14,7 +14,8 @@ use Rattle.walks.proofs.LeastLaw.{Upto, Attained, is-least, fit-walk, walk-fit}
 use Rattle.walks.specs.Graph.{closedIn, headOf, arcItem, len, fit, least}
 use Rattle.walks.specs.Lengths.{Least, none, some}
 use Rattle.walks.specs.Walk.{Step, Stay, Walk}
-use Rattle.rows.proofs.ArcLaws.{arcs-count, tail-at, head-at, weight-at}
+use Rattle.walks.proofs.FlatLaws.{arcs-count}
+use Rattle.rows.proofs.ArcLaws.{tail-at, head-at, weight-at}
 use Rattle.rows.proofs.HeldLaws.{Held, low, high, is-held}
 use Rattle.rows.specs.Held.{missing}
 use Rattle.rows.specs.Net.{Net, graph, closed, count, arcCount, tailIn, headIn, weightIn, tailAt, headAt, weightAt, Proper, Joins, Open, SameArc, Packed}

@@ -1,53 +1,12 @@
+// A row: the least lengths from one node to each, cut arc by arc until nothing can be cut.
 ghost use mathlib.Core.Path.{_≡_};
-ghost use Prim.Native.Nat.{_+_, _*_, _≤_, _<_};
-ghost use lib.ListN.{length, take};
-ghost use Rattle.rows.specs.Net.{netOf, arcCount, Proper, Joins, PackedTo, Packed};
+ghost use Prim.Native.Nat.{_+_, _*_, _<_};
+ghost use lib.ListN.{length};
+ghost use Rattle.rows.specs.Net.{arcCount, Joins};
 ghost use Rattle.rows.specs.Rows.{Relaxed, ArcTried, Swept, Round, Settled, Keeps, Started};
 
 // The mark of a forbidden item.
 const FORBIDDEN: u8 = 2;
-
-// Puts arc `i` behind the `c` arcs that are packed, where it and its head are open.
-fn pack_arc(
-    nodes: usize,
-    arcs: &[u32],
-    marks: &[u8],
-    packed: &mut [u32],
-    i: usize,
-    c: usize,
-) -> usize
-    requires { ⌜ Proper (netOf nodes (now arcs) (now marks)) × (i < arcCount (now arcs)) × (c ≤ i) × (length (now arcs) ≤ length (now packed)) ⌝ }
-    ensures { λ r. ⌜ (r ≤ i + 1) × (PackedTo (netOf nodes (now (arcs .entry)) (now (marks .entry))) i (now (packed .entry)) c → PackedTo (netOf nodes (now (arcs .entry)) (now (marks .entry))) (i + 1) (now (packed .exit)) r) ⌝ }
-{
-    let at = i * 3;
-    let head = arcs[at + 1];
-    if marks[nodes + i] == FORBIDDEN {
-        return c;
-    }
-    if marks[head as usize] == FORBIDDEN {
-        return c;
-    }
-    let to = c * 3;
-    packed[to] = arcs[at];
-    packed[to + 1] = head;
-    packed[to + 2] = arcs[at + 2];
-    c + 1
-}
-
-// Writes the open arcs with an open head to the front of `packed` and gives how many numbers they take.
-pub fn pack(nodes: usize, arcs: &[u32], marks: &[u8], packed: &mut [u32]) -> usize
-    requires { ⌜ Proper (netOf nodes (now arcs) (now marks)) × (length (now arcs) ≤ length (now packed)) ⌝ }
-    ensures { λ r. ⌜ (r ≤ length (now (packed .exit))) × Packed (netOf nodes (now (arcs .entry)) (now (marks .entry))) (take r (now (packed .exit))) ⌝ }
-{
-    let m = arcs.len() / 3;
-    let mut c = 0;
-    let mut i = 0;
-    while i < m {
-        c = pack_arc(nodes, arcs, marks, packed, i, c);
-        i += 1;
-    }
-    c * 3
-}
 
 // Cuts the entry at `to` where the way over `from` is shorter and at most `cap`.
 pub fn relax(row: &mut [u32], from: usize, to: usize, weight: u32, cap: u32) -> bool

@@ -7,7 +7,7 @@ use lib.Dec.{leb, eqb, leb·suc-suc}
 use borrow.Author.Tests.{le-leb, lt-leb, eq-eqb, ne-eqb}
 use Rattle.varint.specs.Varint.{got, refuse, after, number, judged}
 use Rattle.sections.specs.Sections.{headerLimit, headerTarget, headerSource, headerArcs, readHeader}
-use Rattle.sections.proofs.ReadLaws.{under, number-and, number-most}
+use Rattle.values.proofs.ReadLaws.{under, number-and, number-most}
 
 and-swap : (a b : Bool) → (a && b) ≡ (b && a)
 and-swap true true = refl

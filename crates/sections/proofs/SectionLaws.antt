@@ -7,7 +7,7 @@ use lib.ListN.{length, set, length-append}
 use Rattle.lists.specs.Lists.{front}
 use Rattle.lists.proofs.FrontLaws.{length-front, push-at}
 use Rattle.varint.specs.Varint.{Read}
-use Rattle.varint.proofs.SeveralLaws.{Filling}
+use Rattle.numbers.proofs.SeveralLaws.{Filling}
 use Rattle.walks.specs.Graph.{Arc}
 use Rattle.walks.specs.Flat.{flat}
 use Rattle.walks.proofs.FlatLaws.{length-flat, flat-append}

@@ -6,23 +6,11 @@ use lib.ListN.{length, drop}
 use lib.Dec.{eqb, ltb, leb}
 use Rattle.varint.specs.Varint.{Read, got, refuse, after, number}
 use Rattle.walks.specs.Graph.{Arc}
-use Rattle.sections.specs.declared.Judged.{Judged}
-use Rattle.sections.specs.declared.Judged.the-variants.{Fine, Wrong}
 use Rattle.sections.specs.declared.Header.{Header}
 use Rattle.sections.specs.declared.HeaderRead.{HeaderRead}
 use Rattle.sections.specs.declared.HeaderRead.the-variants.{Five, Fault}
 use Rattle.sections.specs.declared.ArcRead.{ArcRead}
 use Rattle.sections.specs.declared.ArcRead.the-variants.{Found, Not}
-
--- a number, an arc: the value with the bytes after it, or the refusal
-abbrev pub judgedOf : List ℕ → Judged → Read ℕ
-judgedOf s (Fine x next) = got x (drop next s)
-judgedOf s (Wrong e) = refuse e
-
--- the position after the number, 0 where it was refused
-abbrev pub nextOf : Judged → ℕ
-nextOf (Fine x next) = next
-nextOf (Wrong e) = 0
 
 -- the five numbers in front, read in the same steps as by `readSheet` (`sheet-header`)
 unfoldable pub headerLimit : ℕ → ℕ → ℕ → ℕ → List ℕ → Read Header
@@ -59,6 +47,7 @@ abbrev pub HeaderFits : List ℕ → HeaderRead → Type 0
 HeaderFits s (Five h next) = Fits s h next
 HeaderFits s (Fault e) = Unit {0}
 
+-- an arc: the value with the bytes after it, or the refusal
 abbrev pub arcOf : List ℕ → ArcRead → Read Arc
 arcOf s (Found t h w next) = got (record { tail = t; head = h; weight = w }) (drop next s)
 arcOf s (Not e) = refuse e

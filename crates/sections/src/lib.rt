@@ -1,17 +1,16 @@
-// The parts of a sheet (document 01, 'Sheet and slip'): its numbers, each judged as it is read, the five in front, the arcs and the marks.
+// The parts of a sheet in front of the marks (document 01, 'Sheet and slip'): the five numbers and the arcs.
 ghost use mathlib.Core.Path.{_≡_};
 ghost use Prim.Native.Nat.{_*_, _≤_};
 ghost use lib.ListN.{length, drop};
-ghost use lib.Dec.{ltb};
 ghost use Rattle.lists.specs.Lists.{front};
-ghost use Rattle.varint.specs.Varint.{number, several};
+ghost use Rattle.varint.specs.Varint.{several};
 ghost use Rattle.walks.specs.Flat.{flat};
-ghost use Rattle.sheet.specs.Reader.{readArc, readMark};
-ghost use Rattle.varint.specs.Answer.{sectionOf};
-ghost use Rattle.varint.specs.Begun.{begun};
-ghost use Rattle.sections.specs.Sections.{judgedOf, nextOf, headerIn, headerSource, readHeader, HeaderFits, arcOf};
-use varint::Number;
-use varint::Section;
+ghost use Rattle.sheet.specs.Reader.{readArc};
+ghost use Rattle.numbers.specs.Answer.{sectionOf};
+ghost use Rattle.numbers.specs.Begun.{begun};
+ghost use Rattle.sections.specs.Sections.{headerIn, headerSource, readHeader, HeaderFits, arcOf};
+use numbers::Section;
+use values::Judged;
 
 const NODES_LEAST: u32 = 2;
 
@@ -22,32 +21,6 @@ const ARCS_END: u32 = 513;
 const LIMIT_END: u32 = 1000001;
 
 const MINUTES_END: u32 = 65536;
-
-const MARKS_END: u32 = 3;
-
-// A number of the sheet that was judged: its value and the position after it, or the refusal.
-pub enum Judged {
-    Fine(u32, usize),
-    Wrong(u32),
-}
-
-// Reads the number at `at`, which is to be below `end`; otherwise the refusal is `why`.
-fn judged_at(sheet: &[u8], at: usize, end: u32, why: u32) -> Judged
-    ensures { λ r. ⌜ judgedOf (now (sheet .entry)) r ≡ number why (λ x. ltb x end) (drop at (now (sheet .entry))) ⌝ }
-    ensures { λ r. ⌜ nextOf r ≤ length (now (sheet .entry)) ⌝ }
-{
-    match varint::number_at(sheet, at) {
-        Number::Got(x, next) => {
-            if x < end {
-                Judged::Fine(x, next)
-            } else {
-                Judged::Wrong(why)
-            }
-        }
-        Number::Ends => Judged::Wrong(3),
-        Number::Overlong => Judged::Wrong(4),
-    }
-}
 
 // The five numbers in front of a sheet: n, m, start, finish and K of document 01.
 pub struct Header {
@@ -76,14 +49,14 @@ fn header_ends(sheet: &[u8], at: usize, nodes: u32, arcs: u32) -> HeaderRead
     ensures { λ r. ⌜ headerIn (now (sheet .entry)) r ≡ headerSource nodes arcs (drop at (now (sheet .entry))) ⌝ }
     ensures { λ r. ⌜ HeaderFits (now (sheet .entry)) r ⌝ }
 {
-    let source = match judged_at(sheet, at, nodes, 7) {
+    let source = match values::judged_at(sheet, at, nodes, 7) {
         Judged::Fine(x, next) => Field {
             value: x,
             next: next,
         },
         Judged::Wrong(why) => return HeaderRead::Fault(why),
     };
-    let target = match judged_at(sheet, source.next, nodes, 7) {
+    let target = match values::judged_at(sheet, source.next, nodes, 7) {
         Judged::Fine(x, next) => Field {
             value: x,
             next: next,
@@ -93,7 +66,7 @@ fn header_ends(sheet: &[u8], at: usize, nodes: u32, arcs: u32) -> HeaderRead
     if target.value == source.value {
         return HeaderRead::Fault(7);
     }
-    match judged_at(sheet, target.next, LIMIT_END, 8) {
+    match values::judged_at(sheet, target.next, LIMIT_END, 8) {
         Judged::Fine(limit, next) => {
             let header = Header {
                 nodes: nodes as usize,
@@ -113,7 +86,7 @@ pub fn header_of(sheet: &[u8]) -> HeaderRead
     ensures { λ r. ⌜ headerIn (now (sheet .entry)) r ≡ readHeader (now (sheet .entry)) ⌝ }
     ensures { λ r. ⌜ HeaderFits (now (sheet .entry)) r ⌝ }
 {
-    let nodes = match judged_at(sheet, 0, NODES_END, 5) {
+    let nodes = match values::judged_at(sheet, 0, NODES_END, 5) {
         Judged::Fine(x, next) => Field {
             value: x,
             next: next,
@@ -123,7 +96,7 @@ pub fn header_of(sheet: &[u8]) -> HeaderRead
     if nodes.value < NODES_LEAST {
         return HeaderRead::Fault(5);
     }
-    match judged_at(sheet, nodes.next, ARCS_END, 6) {
+    match values::judged_at(sheet, nodes.next, ARCS_END, 6) {
         Judged::Fine(arcs, next) => header_ends(sheet, next, nodes.value, arcs),
         Judged::Wrong(why) => HeaderRead::Fault(why),
     }
@@ -139,15 +112,15 @@ pub enum ArcRead {
 fn arc_at(sheet: &[u8], at: usize, nodes: u32) -> ArcRead
     ensures { λ r. ⌜ arcOf (now (sheet .entry)) r ≡ readArc nodes (drop at (now (sheet .entry))) ⌝ }
 {
-    match judged_at(sheet, at, nodes, 9) {
+    match values::judged_at(sheet, at, nodes, 9) {
         Judged::Wrong(why) => ArcRead::Not(why),
-        Judged::Fine(tail, after_tail) => match judged_at(sheet, after_tail, nodes, 9) {
+        Judged::Fine(tail, after_tail) => match values::judged_at(sheet, after_tail, nodes, 9) {
             Judged::Wrong(why) => ArcRead::Not(why),
             Judged::Fine(head, after_head) => {
                 if head == tail {
                     return ArcRead::Not(9);
                 }
-                match judged_at(sheet, after_head, MINUTES_END, 10) {
+                match values::judged_at(sheet, after_head, MINUTES_END, 10) {
                     Judged::Wrong(why) => ArcRead::Not(why),
                     Judged::Fine(minutes, next) => ArcRead::Found(tail, head, minutes, next),
                 }
@@ -173,29 +146,6 @@ pub fn arcs_in(section: &[u8], nodes: u32, count: usize, arcs: &mut [u32]) -> Se
                 arcs[3 * j] = tail;
                 arcs[3 * j + 1] = head;
                 arcs[3 * j + 2] = minutes;
-                at = next;
-            }
-        }
-        j += 1;
-    }
-    Section::Ended(at)
-}
-
-// Reads the marks that stand from `from` on and stores each over the front of `marks`.
-pub fn marks_in(section: &[u8], from: usize, count: usize, marks: &mut [u8]) -> Section
-    requires { ⌜ count ≤ length (now marks) ⌝ }
-    ensures { λ r. ⌜ sectionOf (now (section .entry)) (begun readMark count (drop from (now (section .entry)))) r ≡ several readMark count (drop from (now (section .entry))) ⌝ }
-    ensures { λ _. ⌜ now (marks .exit) ≡ front (begun readMark count (drop from (now (section .entry)))) (now (marks .entry)) ⌝ }
-{
-    let mut at = from;
-    let mut j: usize = 0;
-    while j < count {
-        match judged_at(section, at, MARKS_END, 11) {
-            Judged::Wrong(why) => {
-                return Section::Stopped(why);
-            }
-            Judged::Fine(mark, next) => {
-                marks[j] = mark as u8;
                 at = next;
             }
         }

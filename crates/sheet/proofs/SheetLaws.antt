@@ -11,7 +11,7 @@ use Rattle.lists.proofs.TestLaws.{and-true, not-true}
 use Rattle.lists.specs.Lists.{pick}
 use Rattle.varint.proofs.VarintLaws.{after-got, number-got, got-both, several-first}
 use Rattle.varint.specs.Varint.{Read, got, refuse, after, number, several}
-use Rattle.walks.specs.Graph.{Graph, Arc, noArc, tailOf, headOf, weightOf, itemCount}
+use Rattle.walks.specs.Graph.{Graph, Arc, noArc, tailOf, headOf, weightOf}
 use Rattle.sheet.specs.Good.{Good, GoodArc, All}
 use Rattle.sheet.specs.Reader.{arcMinutes, arcHead, readArc, readMark, readMarks, readArcs, readLimit, readTarget, readSource, readArcCount, readSheet, complete, taken}
 use Rattle.sheet.specs.Sheet.{Sheet, markOf, required}
@@ -123,9 +123,14 @@ pub record Taken (bs : List ℕ) (S : Sheet) : Type 0 where
   pub whole : readSheet bs ≡ got S []
   pub few : length (required S) ≤ 8
 
+-- bytes that remain draw 12, however many nodes are required
+remain : (S : Sheet) (b : ℕ) (bs : List ℕ) → complete S (b ∷ bs) ≡ refuse 12
+unfolding complete
+remain S b bs = refl
+
 complete-got : (S : Sheet) (bs : List ℕ) (S′ : Sheet) (rest : List ℕ) → complete S bs ≡ got S′ rest → (S ≡ S′) × (length (required S) ≤ 8) × (bs ≡ []) × (rest ≡ [])
 unfolding complete
-complete-got S (b ∷ bs) S′ rest e = absurd (let z : _≡_ {A = ℕ} 0 1 = cc in omega arith)
+complete-got S (b ∷ bs) S′ rest e = absurd (let r : refuse 12 ≡ got S′ rest = sym (remain S b bs) ∙ e in let z : _≡_ {A = ℕ} 0 1 = cc in omega arith)
 complete-got S [] S′ rest e = go (leb (length (required S)) 8) refl e
   where
     go : (t : Bool) → leb (length (required S)) 8 ≡ t → pick t (got S []) (refuse 13) ≡ got S′ rest
@@ -147,10 +152,10 @@ got-taken bs S T = rw (T .whole, le-leb (length (required S)) 8 (T .few))
 pub taken-good : (bs : List ℕ) (S : Sheet) → Taken bs S → Good S
 taken-good bs S T = sheet-good bs S [] (T .whole)
 
--- bytes that remain draw 12, however many nodes are required; with none left, more than eight required nodes draw 13
+-- so in a sheet; with none left, more than eight required nodes draw 13
 pub bytes-remain : (bs : List ℕ) (S : Sheet) (b : ℕ) (rest : List ℕ) → readSheet bs ≡ got S (b ∷ rest) → taken bs ≡ refuse 12
-unfolding taken complete after
-bytes-remain bs S b rest e = rw e
+unfolding taken after
+bytes-remain bs S b rest e = rw e (remain S b rest)
 
 pub too-many : (bs : List ℕ) (S : Sheet) → readSheet bs ≡ got S [] → 8 < length (required S) → taken bs ≡ refuse 13
 unfolding taken complete after

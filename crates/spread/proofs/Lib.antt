@@ -1,3 +1,1 @@
 pub mod ChainLaws
-pub mod TurnLaws
-pub mod FillLaws

@@ -1,4 +1,3 @@
 pub mod VarintLaws
 pub mod ReadLaws
 pub mod WriteLaws
-pub mod SeveralLaws

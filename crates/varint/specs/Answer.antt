@@ -1,4 +1,4 @@
--- What the cases of `Number` and of `Section` stand for in document 01: values with the bytes after them, or the refusal.
+-- What the cases of `Number` stand for in document 01: a value with the bytes after it, or the refusal.
 use Prim.Native.Nat.{ℕ}
 use mathlib.Core.List.{List}
 use mathlib.Core.Bool.{Bool}
@@ -7,8 +7,6 @@ use lib.ListN.{drop}
 use Rattle.lists.specs.Lists.{every}
 use Rattle.varint.specs.declared.Number.{Number}
 use Rattle.varint.specs.declared.Number.the-variants.{Got, Ends, Overlong}
-use Rattle.varint.specs.declared.Section.{Section}
-use Rattle.varint.specs.declared.Section.the-variants.{Ended, Stopped}
 use Rattle.varint.specs.Varint.{Read, got, refuse}
 
 -- the answer of a reader of the bytes s
@@ -22,16 +20,6 @@ abbrev pub endOf : Number → ℕ
 endOf (Got x next) = next
 endOf Ends = 0
 endOf Overlong = 0
-
--- a section of values of a kind, xs: with the bytes after them, or the refusal
-abbrev pub sectionOf : {A : Type 0} → List ℕ → List A → Section → Read (List A)
-sectionOf s xs (Ended next) = got xs (drop next s)
-sectionOf s xs (Stopped e) = refuse e
-
--- the position after the section, 0 where it was refused
-abbrev pub sectionEnd : Section → ℕ
-sectionEnd (Ended next) = next
-sectionEnd (Stopped e) = 0
 
 -- each number is one that has a written form: below 2 to the 28
 unfoldable pub small : List ℕ → Bool

@@ -20,9 +20,9 @@ use Rattle.verdict.proofs.VerdictLaws.{VerdictIs, verdict-is, one, two, three, 
 use Rattle.verdict.specs.Accepted.{accepted}
 use Rattle.verdict.specs.Pass.{Refuses}
 use Rattle.verdict.specs.Verdict.{verdict, Verdict, fitsSheet, isPruned, reasonsFor, slipFor}
-use Rattle.reason.proofs.AnswerLaws.{explained}
-use Rattle.reason.proofs.Demand3.{listed-forbidden, list-valid}
-use Rattle.reason.specs.Later.{Explains}
+use Rattle.blame.proofs.AnswerLaws.{explained}
+use Rattle.blame.proofs.Demand3.{listed-forbidden, list-valid}
+use Rattle.blame.specs.Later.{Explains}
 use Rattle.sheet.proofs.MarkLaws.{required-below}
 use Rattle.sheet.proofs.SlipLaws.{slip-read}
 use Rattle.sheet.specs.Sheet.{Sheet, isOpen, isMandatory, isForbidden, required}

@@ -1,1 +1,1 @@
-// The code comes with the next pieces; the definitions and laws are in specs/ and proofs/.
+// What check answers: definitions and laws. The code is in the crates `claim` and `checker`.

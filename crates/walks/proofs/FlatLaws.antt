@@ -1,5 +1,5 @@
 -- Arcs in one list of numbers and back. Assumes nothing.
-use Prim.Native.Nat.{ℕ, zero, suc, _+_, _*_, _<_}
+use Prim.Native.Nat.{ℕ, zero, suc, _+_, _*_, _/_, _<_}
 use mathlib.Core.Path.{_≡_, refl, ap}
 use mathlib.Core.List.{List, [], _∷_, _++_}
 use native.Mathlib.Omega.{arith}
@@ -22,24 +22,30 @@ unfolding flat
 flat-append [] ys = refl
 flat-append (x ∷ xs) ys = ap (λ (zs : List ℕ). x .tail ∷ x .head ∷ x .weight ∷ zs) (flat-append xs ys)
 
--- the arc l stands at three times its number
+-- as many arcs as there are threes, and arc i stands at three times its number
+pub arcs-count : (xs : List ℕ) → length (arcsOf xs) ≡ length xs / 3
+unfolding arcsOf
+arcs-count [] = refl
+arcs-count (t ∷ []) = refl
+arcs-count (t ∷ h ∷ []) = refl
+arcs-count (t ∷ h ∷ w ∷ xs) = omega (arith, arcs-count xs)
+
+pub arc-at : (xs : List ℕ) (i : ℕ) → i < length xs / 3
+    → getD (arcsOf xs) i noArc ≡ record { tail = getD xs (i * 3) 0; head = getD xs (i * 3 + 1) 0; weight = getD xs (i * 3 + 2) 0 }
+unfolding arcsOf
+arc-at [] i q = absurd (omega arith)
+arc-at (t ∷ []) i q = absurd (omega arith)
+arc-at (t ∷ h ∷ []) i q = absurd (omega arith)
+arc-at (t ∷ h ∷ w ∷ xs) zero q = refl
+arc-at (t ∷ h ∷ w ∷ xs) (suc i) q =
+    let p : suc i * 3 ≡ suc (suc (suc (i * 3))) = omega arith in
+    let p₁ : suc i * 3 + 1 ≡ suc (suc (suc (i * 3 + 1))) = omega arith in
+    let p₂ : suc i * 3 + 2 ≡ suc (suc (suc (i * 3 + 2))) = omega arith in
+    rw (p₁, p₂, p) (arc-at xs i (omega arith))
+
 pub arc-in : (xs : List ℕ) (l : ℕ) → 3 * l + 2 < length xs
     → getD (arcsOf xs) l noArc ≡ record { tail = getD xs (3 * l) 0; head = getD xs (3 * l + 1) 0; weight = getD xs (3 * l + 2) 0 }
-unfolding arcsOf
-arc-in [] l q = absurd (omega arith)
-arc-in (t ∷ []) l q = absurd (omega arith)
-arc-in (t ∷ h ∷ []) l q = absurd (omega arith)
-arc-in (t ∷ h ∷ w ∷ xs) zero q = refl
-arc-in (t ∷ h ∷ w ∷ xs) (suc l) q =
-    let p : 3 * suc l ≡ suc (suc (suc (3 * l))) = omega arith in
-    let p₁ : 3 * suc l + 1 ≡ suc (suc (suc (3 * l + 1))) = omega arith in
-    let p₂ : 3 * suc l + 2 ≡ suc (suc (suc (3 * l + 2))) = omega arith in
-    rw (p₁, p₂, p) (arc-in xs l (omega arith))
+arc-in xs l q = let e : 3 * l ≡ l * 3 = omega arith in rw e (arc-at xs l (omega arith))
 
 pub arcs-many : (xs : List ℕ) (m : ℕ) → length xs ≡ 3 * m → length (arcsOf xs) ≡ m
-unfolding arcsOf
-arcs-many [] m q = omega arith
-arcs-many (t ∷ []) m q = absurd (omega arith)
-arcs-many (t ∷ h ∷ []) m q = absurd (omega arith)
-arcs-many (t ∷ h ∷ w ∷ xs) zero q = absurd (omega arith)
-arcs-many (t ∷ h ∷ w ∷ xs) (suc m) q = ap suc (arcs-many xs m (omega arith))
+arcs-many xs m q = let e = arcs-count xs in omega (arith, e)

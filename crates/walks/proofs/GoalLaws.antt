@@ -10,7 +10,7 @@ use lib.Dec.{eqb, leb}
 use borrow.Author.Tests.{leb-true, leb-false, eqb-true, eqb-false, lt-ltb, le-ltb}
 use Rattle.lists.proofs.MemberLaws.{member-head, member-tail, member-cases, member-none, member-keep, keep-member}
 use Rattle.lists.proofs.TestLaws.{not-true, true-or-false}
-use Rattle.lists.specs.Lists.{member, keep, without, pick}
+use Rattle.lists.specs.Lists.{member, keep, without}
 use Rattle.walks.proofs.FewArcs.{cross, rest}
 use Rattle.walks.proofs.Join.{meets-none, meets-all, meets-at, len-append, first-item, first-arc, walk-append, items-left, items-right, walk-first, walk-last}
 use Rattle.walks.proofs.LeastLaw.{left, rest-left, meets-rest, fit-walk, walk-fit, Upto, upto-le, Attained, is-least, least-unique}

@@ -1,9 +1,9 @@
 -- `checker::judge_form` meets its contract: a list that is too long is not well formed. Assumes nothing.
 use mathlib.Core.Path.{refl, _∙_}
 use native.Mathlib.Omega.{arith}
-use Rattle.reader.specs.Answer.{sheetOf}
-use Rattle.slip.specs.Form.{valuesAt}
-use Rattle.judge.proofs.JudgeLaws.{items-are}
+use Rattle.required.specs.Held.{sheetOf}
+use Rattle.form.specs.Form.{valuesAt}
+use Rattle.required.proofs.HeldLaws.{items-are}
 use Rattle.claim.proofs.FormLaws.{many-goals, many-reasons}
 use Rattle.checker.proofs.AnswerLaws.{answer-formed}
 use borrow.Author.Needs.{needs}

@@ -2,9 +2,9 @@
 use mathlib.Core.Path.{refl, sym, ap, _∙_}
 use mathlib.Core.Bool.{true, false}
 use lib.ListN.{length, take}
-use Rattle.reader.specs.Answer.{sheetOf}
-use Rattle.slip.specs.Form.{slipFrom, valuesAt}
-use Rattle.judge.proofs.JudgeLaws.{listed-front, items-are}
+use Rattle.required.specs.Held.{sheetOf}
+use Rattle.form.specs.Form.{slipFrom, valuesAt}
+use Rattle.required.proofs.HeldLaws.{listed-front, items-are}
 use Rattle.claim.proofs.ListLaws.{passed, failed}
 use Rattle.claim.proofs.FormLaws.{formed-asked}
 use Rattle.checker.proofs.AnswerLaws.{answer-formed, answer-judged, of-lists}

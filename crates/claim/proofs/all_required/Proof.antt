@@ -6,8 +6,8 @@ use native.Mathlib.Omega.{arith}
 use lib.ListN.{length}
 use Rattle.lists.specs.Lists.{member, every}
 use Rattle.sheet.specs.Sheet.{required}
-use Rattle.reader.specs.Answer.{sheetOf}
-use Rattle.judge.proofs.JudgeLaws.{listed-front}
+use Rattle.required.specs.Held.{sheetOf}
+use Rattle.required.proofs.HeldLaws.{listed-front}
 use borrow.Author.Needs.{needs}
 use Rattle.claim.proofs.all_required.Statement.{statement}
 use Rattle.claim.proofs.all_required.Tie as tie

@@ -1,6 +1,6 @@
 -- `claim::fits_goals` meets its contract: the least length clear of the reasons over the goals, against the limit. Assumes nothing.
 use native.Mathlib.Omega.{arith}
-use Rattle.judge.proofs.JudgeLaws.{drop-more}
+use Rattle.required.proofs.HeldLaws.{drop-more}
 use Rattle.claim.proofs.GoalLaws.{goals-fit}
 use borrow.Author.Needs.{needs}
 use Rattle.claim.proofs.fits_goals.Statement.{statement}

@@ -1,7 +1,7 @@
 -- `claim::goals_hold` meets its contract, by the first number. Assumes nothing.
 use mathlib.Core.Path.{_∙_}
 use borrow.Author.Tests.{eq-eqb, ne-eqb}
-use Rattle.reader.specs.Answer.{sheetOf}
+use Rattle.required.specs.Held.{sheetOf}
 use Rattle.claim.proofs.GoalLaws.{goals-two, goals-three, goals-four}
 use borrow.Author.Needs.{needs}
 use Rattle.claim.proofs.goals_hold.Statement.{statement}

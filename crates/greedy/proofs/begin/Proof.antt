@@ -5,9 +5,9 @@ use lib.ListN.{take}
 use lib.Seq.{length-take-le}
 use borrow.Author.Needs.{needs}
 use Rattle.rows.specs.Net.{netOf}
-use Rattle.rows.proofs.PackLaws.{packed-joins}
+use Rattle.arcs.proofs.PackLaws.{packed-joins}
 use Rattle.lengths.proofs.PartLaws.{front-count, starts-fit, starts-of}
-use Rattle.greedy.proofs.TurnLaws.{begun}
+use Rattle.turns.proofs.TurnLaws.{begun}
 use Rattle.greedy.proofs.begin.Statement.{statement}
 use Rattle.greedy.proofs.begin.Tie as tie
 

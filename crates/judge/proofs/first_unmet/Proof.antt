@@ -7,7 +7,7 @@ use native.Mathlib.Omega.{arith}
 use borrow.Author.Count.{below-more}
 use Rattle.sheet.specs.Sheet.{isMandatory}
 use Rattle.verdict.specs.Verdict.{fitsSheet}
-use Rattle.reader.specs.Answer.{sheetOf}
+use Rattle.required.specs.Held.{sheetOf}
 use Rattle.judge.proofs.JudgeLaws.{first-is, none-is}
 use Rattle.judge.proofs.first_unmet.Statement.{statement}
 use Rattle.judge.proofs.first_unmet.Tie as tie
@@ -22,37 +22,29 @@ Inv-loop header arcs marks rows items i₀ i =
 abbrev μ-loop : tie.MeasureT-loop
 μ-loop header arcs marks rows items i₀ i = header .nodes + header .arcs - i
 
--- src/lib.rt:71:17
 add-items : tie.Need-add-items Inv-loop μ-loop
 add-items c = let s = c .before .before .before .before in omega (arith, s .pre .whole .proper .few, s .pre .whole .few)
 
--- src/lib.rt:73:5
 loop-holds : tie.Need-loop-holds Inv-loop μ-loop
 loop-holds c = (omega arith, λ j h. absurd (omega arith))
 
--- src/lib.rt:74:12
 is-unmet-requires : tie.Need-is-unmet-requires Inv-loop μ-loop
 is-unmet-requires c κs = (c .before .before .before .before .before .before .pre, c .loop-test .taken)
 
--- src/lib.rt:75:13
 returns : tie.Need-returns Inv-loop μ-loop
 returns c =
     let s = c .before .before .before .before .before .before .before .before in
     first-is (s .pre .whole) (c .before .before .before .loop .i) (c .before .before .loop-test .taken) (c .before .before .before .loop .inv .1) (sym (c .before .is-unmet .ensures) ∙ c .if1 .taken)
 
--- src/lib.rt:77:9
 add-i : tie.Need-add-i Inv-loop μ-loop
 add-i c = let s = c .before .before .before .before .before .before .before .before in omega (arith, s .pre .whole .proper .few, s .pre .whole .few, c .before .before .loop-test .taken)
 
--- src/lib.rt:73:5
 loop-less : tie.Need-loop-less Inv-loop μ-loop
 loop-less c = omega (arith, c .before .before .loop-test .taken)
 
--- src/lib.rt:73:5
 loop-again : tie.Need-loop-again Inv-loop μ-loop
 loop-again c = (omega (arith, c .before .before .loop-test .taken), below-more _ _ (c .before .before .before .loop .inv .1) (sym (c .before .is-unmet .ensures) ∙ c .if1 .left))
 
--- src/lib.rt:67:1
 returns-2 : tie.Need-returns-2 Inv-loop μ-loop
 returns-2 c =
     let s = c .before .before .before .before .before .before in

@@ -1,6 +1,6 @@
 -- `judge::fits_goals` meets its contract: the least length over the goals, against the limit. Assumes nothing.
-use Rattle.judge.proofs.FitLaws.{goals-fit}
-use Rattle.judge.proofs.JudgeLaws.{drop-more}
+use Rattle.fits.proofs.FitLaws.{goals-fit}
+use Rattle.required.proofs.HeldLaws.{drop-more}
 use borrow.Author.Needs.{needs}
 use Rattle.judge.proofs.fits_goals.Statement.{statement}
 use Rattle.judge.proofs.fits_goals.Tie as tie
@@ -8,15 +8,12 @@ use Rattle.judge.proofs.fits_goals.Reads as reads
 use Rattle.judge.proofs.fits_goals.Lts as lts
 use Rattle.lengths.proofs.least.Reads as least-reads
 
--- src/lib.rt:101:5
 least-requires : tie.Need-least-requires
 least-requires c κs = search needs
 
--- src/lib.rt:89:1
 same-length : tie.Need-same-length
 same-length c = search needs
 
--- src/lib.rt:89:1
 returns : tie.Need-returns
 returns c =
     let s = c .before .before .before .before .before .before .before .before in

@@ -1,30 +1,26 @@
 -- `judge::is_unmet` meets its contract. Assumes nothing.
 use Rattle.sheet.specs.Sheet.{markOf}
-use Rattle.reader.specs.Answer.{sheetOf}
+use Rattle.required.specs.Held.{sheetOf}
 use Rattle.judge.proofs.JudgeLaws.{unmet-true, unmet-false}
 use borrow.Author.Needs.{needs}
 use Rattle.judge.proofs.is_unmet.Statement.{statement}
 use Rattle.judge.proofs.is_unmet.Tie as tie
 use Rattle.judge.proofs.is_unmet.Reads as reads
 use Rattle.judge.proofs.is_unmet.Lts as lts
-use Rattle.judge.proofs.fits_item.Reads as fits-item-reads
+use Rattle.fits.proofs.fits_item.Reads as fits-item-reads
 
--- src/lib.rt:60:8
 shared-slice-read-if1 : tie.Need-shared-slice-read-if1
 shared-slice-read-if1 c = search needs
 
--- src/lib.rt:61:17
 fits-item-requires : tie.Need-fits-item-requires
 fits-item-requires c κs = search needs
 
--- src/lib.rt:61:9
 returns : tie.Need-returns
 unfolding markOf
 returns c =
     let s = c .before .before .before .before .before .before in
     unmet-true (sheetOf (s .args .header) (s .args .arcs .now) (s .args .marks .now)) (s .args .item) (c .fits-item .result) (c .before .if1 .taken) (c .fits-item .ensures)
 
--- src/lib.rt:56:1
 returns-2 : tie.Need-returns-2
 unfolding markOf
 returns-2 c =

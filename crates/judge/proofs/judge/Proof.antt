@@ -3,8 +3,8 @@ use mathlib.Core.Path.{refl, sym, _∙_}
 use native.Mathlib.Omega.{arith}
 use lib.Seq.{take-suc-set}
 use borrow.Author.Tests.{lt-leb}
-use Rattle.reader.specs.Answer.{sheetOf}
-use Rattle.judge.proofs.FitLaws.{target-fits, some-walk}
+use Rattle.required.specs.Held.{sheetOf}
+use Rattle.fits.proofs.FitLaws.{target-fits, some-walk}
 use Rattle.judge.proofs.JudgeLaws.{unmet-found, unmet-empty, judged-one, judged-two}
 use borrow.Author.Needs.{needs}
 use Rattle.judge.proofs.judge.Statement.{statement}
@@ -14,38 +14,30 @@ use Rattle.judge.proofs.judge.Lts as lts
 use Rattle.judge.proofs.first_unmet.Reads as first-unmet-reads
 use Rattle.judge.proofs.judge_together.Reads as judge-together-reads
 
--- src/lib.rt:137:8
 mul-if1 : tie.Need-mul-if1
 mul-if1 c = search needs
 
--- src/lib.rt:137:8
 shared-slice-read-if1 : tie.Need-shared-slice-read-if1
 shared-slice-read-if1 c = search needs
 
--- src/lib.rt:138:9
 returns : tie.Need-returns
 returns c =
     let s = c .before .before .before .before .before .before .before .before in
     let S = sheetOf (s .args .header) (s .args .arcs .now) (s .args .marks .now) in
     (judged-one S _ (sym (target-fits (s .pre .0) _ (s .pre .0 .there (s .args .header .target) (s .pre .0 .whole .target))) ∙ lt-leb _ _ (c .if1 .taken)), refl)
 
--- src/lib.rt:140:9
 first-unmet-requires : tie.Need-first-unmet-requires
 first-unmet-requires c κs = search needs
 
--- src/lib.rt:141:15
 add-if2 : tie.Need-add-if2
 add-if2 c = search needs
 
--- src/lib.rt:142:9
 slice-write-goals : tie.Need-slice-write-goals
 slice-write-goals c = search needs
 
--- src/lib.rt:143:9
 same-length : tie.Need-same-length
 same-length c = search needs
 
--- src/lib.rt:143:9
 returns-2 : tie.Need-returns-2
 returns-2 c =
     let s = c .before .before .before .before .before .before .before .before .before .before .before in
@@ -54,22 +46,18 @@ returns-2 c =
     let f = unmet-found (s .pre .0 .whole) (u .result) (u .ensures) (c .if2 .taken) in
     (judged-two S (u .result) (f .0) _ (some-walk (s .pre .0) (c .before .before .before .if1 .left)) (f .1) (take-suc-set (s .args .goals .now) 0 (u .result) (omega arith)), refl)
 
--- src/lib.rt:145:5
 judge-together-requires : tie.Need-judge-together-requires
 judge-together-requires c κs =
     let s = c .before .before .before .before .before .before .before .before .before .before .before .before .before in
     let u = c .before .before .before .before .first-unmet in
     ((s .pre .0 .whole, s .pre .1, s .pre .2), (some-walk (s .pre .0) (c .before .before .before .before .before .if1 .left), unmet-empty (s .pre .0 .whole) (u .result) (u .ensures) (c .before .before .if2 .left)))
 
--- src/lib.rt:124:1
 same-length-2 : tie.Need-same-length-2
 same-length-2 c = search needs
 
--- src/lib.rt:124:1
 same-length-3 : tie.Need-same-length-3
 same-length-3 c = search needs
 
--- src/lib.rt:124:1
 returns-3 : tie.Need-returns-3
 returns-3 c = search needs
 

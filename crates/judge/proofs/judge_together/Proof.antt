@@ -4,25 +4,23 @@ use native.Mathlib.Omega.{arith}
 use lib.ListN.{length}
 use Rattle.sheet.specs.Sheet.{required}
 use Rattle.verdict.specs.Verdict.{fitsSheet}
-use Rattle.reader.specs.Answer.{sheetOf}
-use Rattle.judge.proofs.JudgeLaws.{listed-front, required-fit, nothing-required, judged-zero, judged-three}
+use Rattle.required.specs.Held.{sheetOf}
+use Rattle.required.proofs.HeldLaws.{listed-front}
+use Rattle.judge.proofs.JudgeLaws.{required-fit, nothing-required, judged-zero, judged-three}
 use borrow.Author.Needs.{needs}
 use Rattle.judge.proofs.judge_together.Statement.{statement}
 use Rattle.judge.proofs.judge_together.Tie as tie
 use Rattle.judge.proofs.judge_together.Reads as reads
 use Rattle.judge.proofs.judge_together.Lts as lts
 use Rattle.judge.proofs.fits_goals.Reads as fits-goals-reads
-use Rattle.reader.proofs.required_nodes.Reads as required-nodes-reads
+use Rattle.required.proofs.required_nodes.Reads as required-nodes-reads
 
--- src/lib.rt:111:9
 required-nodes-requires : tie.Need-required-nodes-requires
 required-nodes-requires c κs = search needs
 
--- src/lib.rt:113:9
 same-length : tie.Need-same-length
 same-length c = search needs
 
--- src/lib.rt:113:9
 returns : tie.Need-returns
 returns c =
     let s = c .before .before .before .before .before .before .before .before .before in
@@ -30,33 +28,27 @@ returns c =
     let S = sheetOf (s .args .header) (s .args .arcs .now) (s .args .marks .now) in
     (judged-zero S _ (s .pre .1 .0) (s .pre .1 .1) (nothing-required S (s .pre .1 .0) (sym (q .ensures .0) ∙ c .if1 .taken)), refl)
 
--- src/lib.rt:115:40
 slice-reshare-prefix-fits-goals : tie.Need-slice-reshare-prefix-fits-goals
 slice-reshare-prefix-fits-goals c = search needs
 
--- src/lib.rt:115:40
 slice-aggregate-fits-goals : tie.Need-slice-aggregate-fits-goals
 slice-aggregate-fits-goals c =
     let s = c .before .before .before .before .before .before .before .before .before .before in
     let q = c .before .before .before .before .required-nodes in
     q .ensures .0 ∙ sym (ap length (listed-front (required (sheetOf (s .args .header) (s .args .arcs .now) (s .args .marks .now))) (q .last .1 .1 .1 .0) (s .args .goals .now) (q .result) (q .ensures)))
 
--- src/lib.rt:115:8
 fits-goals-requires : tie.Need-fits-goals-requires
 fits-goals-requires c κs =
     let s = c .before .before .before .before .before .before .before .before .before .before .before in
     let q = c .before .before .before .before .before .required-nodes in
     (s .pre .0 .0, rw (listed-front (required (sheetOf (s .args .header) (s .args .arcs .now) (s .args .marks .now))) (q .last .1 .1 .1 .0) (s .args .goals .now) (q .result) (q .ensures)) (required-fit (s .pre .0 .0)), s .pre .0 .2)
 
--- src/lib.rt:116:9
 same-length-2 : tie.Need-same-length-2
 same-length-2 c = search needs
 
--- src/lib.rt:116:9
 same-length-3 : tie.Need-same-length-3
 same-length-3 c = search needs
 
--- src/lib.rt:116:9
 returns-2 : tie.Need-returns-2
 returns-2 c =
     let s = c .before .before .before .before .before .before .before .before .before .before .before .before .before .before .before in
@@ -65,15 +57,12 @@ returns-2 c =
     let S = sheetOf (s .args .header) (s .args .arcs .now) (s .args .marks .now) in
     (judged-zero S _ (s .pre .1 .0) (s .pre .1 .1) (ap (fitsSheet S) (sym (listed-front (required (sheetOf (s .args .header) (s .args .arcs .now) (s .args .marks .now))) (q .last .1 .1 .1 .0) (s .args .goals .now) (q .result) (q .ensures))) ∙ sym (f .ensures .0) ∙ c .if2 .taken), f .ensures .1)
 
--- src/lib.rt:105:1
 same-length-4 : tie.Need-same-length-4
 same-length-4 c = search needs
 
--- src/lib.rt:105:1
 same-length-5 : tie.Need-same-length-5
 same-length-5 c = search needs
 
--- src/lib.rt:105:1
 returns-3 : tie.Need-returns-3
 returns-3 c =
     let s = c .before .before .before .before .before .before .before .before .before .before .before .before .before .before .before in

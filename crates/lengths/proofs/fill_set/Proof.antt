@@ -5,8 +5,8 @@ use Prim.Native.Nat.{ℕ, _-_, _≤_}
 use native.Mathlib.Omega.{arith}
 use lib.ListN.{length}
 use Rattle.rows.specs.Net.{Net}
-use Rattle.lengths.proofs.TableLaws.{set-begun, set-done, only-same, only-then, table-fits}
-use Rattle.lengths.specs.Table.{Filled, FilledTo, TableOnly}
+use Rattle.table.proofs.TableLaws.{set-begun, set-done, only-same, only-then, table-fits}
+use Rattle.table.specs.Table.{Filled, FilledTo, TableOnly}
 use Rattle.lengths.proofs.fill_set.Statement.{statement}
 use Rattle.lengths.proofs.fill_set.Tie as tie
 

@@ -3,7 +3,7 @@ use Prim.Native.Nat.{_-_}
 use native.Mathlib.Omega.{arith}
 use native.Mathlib.Nat.{one-le-pow}
 use Rattle.lengths.proofs.PartLaws.{all-goals}
-use Rattle.lengths.proofs.TableLaws.{set-small}
+use Rattle.table.proofs.TableLaws.{set-small}
 use Rattle.lengths.proofs.reach_goals.Statement.{statement}
 use Rattle.lengths.proofs.reach_goals.Tie as tie
 

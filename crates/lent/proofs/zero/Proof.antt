@@ -27,7 +27,7 @@ loop-less : tie.Need-loop-less Inv-loop μ-loop
 loop-less c = omega arith
 
 loop-again : tie.Need-loop-again Inv-loop μ-loop
-loop-again c = zero-more (c .before .loop .inv) (c .before .before .pre) (c .loop-test .taken)
+loop-again c = zero-more (c .before .loop .inv) (c .before .before .pre) (omega (arith, c .loop-test .taken))
 
 same-length : tie.Need-same-length Inv-loop μ-loop
 same-length c = zero-kept (c .before .loop .inv) (c .before .before .pre)

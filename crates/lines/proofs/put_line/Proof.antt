@@ -1,11 +1,10 @@
 -- `put_line` writes the word, the numbers behind it and the line's end. Assumes nothing.
 use borrow.Author.Needs.{needs}
-use mathlib.Core.Path.{ap, _∙_}
 use native.Mathlib.Omega.{arith}
-use lib.ListN.{length, length-append}
-use Rattle.lists.proofs.FrontLaws.{length-front, put, put-within, put-room, put-on}
-use Rattle.lines.specs.Lines.{row, line}
-use Rattle.lines.proofs.LineLaws.{line-room, line-fits, line-done, written-within}
+use lib.ListN.{length-append}
+use Rattle.lists.proofs.FrontLaws.{put, put-within, put-room, put-on}
+use Rattle.lines.specs.Lines.{row}
+use Rattle.lines.proofs.LineLaws.{line-room, line-fits, line-kept, line-done, written-within}
 use Rattle.lines.proofs.put_line.Statement.{statement}
 use Rattle.lines.proofs.put_line.Tie as tie
 
@@ -83,7 +82,7 @@ same-length c =
     let d = s .args .out .now in
     let w = put word d (c .before .before .before .before .before .before .put-word .ensures .0) (c .before .before .before .before .before .before .put-word .ensures .1) in
     let p = put-on w (row xs) (line-fits word xs d (s .pre .1)) (c .before .before .put-row .ensures .0) (c .before .before .put-row .ensures .1) in
-    ap length (line-done word xs d (s .pre .1) _ _ p .1) ∙ length-front (line word xs) d (s .pre .1)
+    line-kept word xs d (s .pre .1) _ p
 
 returns : tie.Need-returns
 returns c =

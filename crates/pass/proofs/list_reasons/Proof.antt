@@ -9,7 +9,6 @@ use Rattle.pass.proofs.list_reasons.Reads as reads
 use Rattle.pass.proofs.list_reasons.Lts as lts
 use Rattle.greedy.proofs.list_reasons.Reads as list-reasons-reads
 
--- src/lib.rt:64:5
 list-reasons-requires : tie.Need-list-reasons-requires
 unfolding fitsSheet isForbidden
 list-reasons-requires c κs =
@@ -17,15 +16,12 @@ list-reasons-requires c κs =
     let w = s .pre .0 .0 in
     ((w .proper, s .pre .0 .1, omega (arith, w .held .0, w .few), omega (arith, w .held .1, w .proper .few, w .few)), ((s .pre .1 .0, omega (arith, s .pre .1 .1, w .held .0, w .proper .few, w .few), w .source, w .target, omega (arith, w .limit)), s .pre .1 .2))
 
--- src/lib.rt:51:1
 same-length : tie.Need-same-length
 same-length c = search needs
 
--- src/lib.rt:51:1
 same-length-2 : tie.Need-same-length-2
 same-length-2 c = search needs
 
--- src/lib.rt:51:1
 returns : tie.Need-returns
 unfolding reasonsFor
 returns c = let r = c .before .before .before .before .list-reasons .ensures in (r .1 .0, (r .0, r .1 .1))

@@ -6,7 +6,7 @@ use Rattle.sheet.specs.Sheet.{Sheet}
 use Rattle.sheet.proofs.RefusalLaws.{taken-refuses}
 use Rattle.verdict.specs.Pass.{passOn, passed}
 use native.Mathlib.Omega.{arith}
-use Rattle.judge.proofs.LoadedLaws.{loaded, unloaded}
+use Rattle.reader.proofs.LoadedLaws.{loaded, unloaded}
 use Rattle.pass.proofs.OutcomeLaws.{short-work, short-slip, early, done}
 use Rattle.pass.proofs.PassLaws.{bad-sheet, good-sheet}
 use borrow.Author.Needs.{needs}
@@ -18,37 +18,29 @@ use Rattle.lent.proofs.zero.Reads as zero-reads
 use Rattle.pass.proofs.write_answer.Reads as write-answer-reads
 use Rattle.reader.proofs.read.Reads as read-reads
 
--- src/lib.rt:92:9
 returns : tie.Need-returns
 unfolding passed
 returns c = let s = c .before .before .before .before in short-work (passOn (s .args .sheet .now)) (s .args .work .now) (s .args .slip .now) (c .if1 .taken)
 
--- src/lib.rt:95:9
 returns-2 : tie.Need-returns-2
 unfolding passed
 returns-2 c = let s = c .before .before .before .before .before in short-slip (passOn (s .args .sheet .now)) (s .args .work .now) (s .args .slip .now) (c .before .if1 .left) (c .if2 .taken)
 
--- src/lib.rt:99:44
 slice-aggregate-read : tie.Need-slice-aggregate-read
 slice-aggregate-read c = search needs
 
--- src/lib.rt:99:55
 slice-aggregate-read-2 : tie.Need-slice-aggregate-read-2
 slice-aggregate-read-2 c = search needs
 
--- src/lib.rt:99:24
 read-requires : tie.Need-read-requires
 read-requires c κs = search needs
 
--- src/lib.rt:100:26
 enum-known-header : tie.Need-enum-known-header
 enum-known-header c = search needs
 
--- src/lib.rt:101:28
 enum-known-why : tie.Need-enum-known-why
 enum-known-why c = search needs
 
--- src/lib.rt:101:36
 returns-3 : tie.Need-returns-3
 unfolding passed
 returns-3 c =
@@ -56,47 +48,36 @@ returns-3 c =
     let u = unloaded (s .args .sheet .now) _ (sym (c .before .why .given .1) ∙ c .before .before .before .before .before .read .ensures .0) in
     early (passOn (s .args .sheet .now)) (s .args .work .now) (s .args .slip .now) (c .before .before .before .before .before .before .before .before .before .if1 .left) (c .before .before .before .before .before .before .before .before .if2 .left) _ (bad-sheet (s .args .sheet .now) _ u) (taken-refuses (s .args .sheet .now) _ u .1)
 
--- src/lib.rt:103:19
 mul-numbers : tie.Need-mul-numbers
 mul-numbers c = let L = loaded (c .before .before .before .before .before .before .before .before .before .before .before .before .before .before .args .sheet .now) _ _ (c .before .before .before .before .before .before .read .last .1 .0) (c .before .before .before .before .before .before .read .last .1 .1 .0) (c .before .before .header .given .0 .0) (sym (c .before .before .header .given .1) ∙ c .before .before .before .before .before .before .read .ensures .0) (c .before .before .before .before .before .before .read .ensures .1 .0) (c .before .before .before .before .before .before .read .ensures .1 .1) in omega (arith, L .whole .few)
 
--- src/lib.rt:104:17
 add-items : tie.Need-add-items
 add-items c = let L = loaded (c .before .before .before .before .before .before .before .before .before .before .before .before .before .before .before .args .sheet .now) _ _ (c .before .before .before .before .before .before .before .read .last .1 .0) (c .before .before .before .before .before .before .before .read .last .1 .1 .0) (c .before .before .before .header .given .0 .0) (sym (c .before .before .before .header .given .1) ∙ c .before .before .before .before .before .before .before .read .ensures .0) (c .before .before .before .before .before .before .before .read .ensures .1 .0) (c .before .before .before .before .before .before .before .read .ensures .1 .1) in omega (arith, L .whole .few, L .whole .proper .few)
 
--- src/lib.rt:105:39
 array-share-prefix-arcs : tie.Need-array-share-prefix-arcs
 array-share-prefix-arcs c = let L = loaded (c .before .before .before .before .before .before .before .before .before .before .before .before .before .before .before .args .sheet .now) _ _ (c .before .before .before .before .before .before .before .read .last .1 .0) (c .before .before .before .before .before .before .before .read .last .1 .1 .0) (c .before .before .before .header .given .0 .0) (sym (c .before .before .before .header .given .1) ∙ c .before .before .before .before .before .before .before .read .ensures .0) (c .before .before .before .before .before .before .before .read .ensures .1 .0) (c .before .before .before .before .before .before .before .read .ensures .1 .1) in omega (arith, L .whole .few, c .before .before .before .before .before .before .before .read .kept .1 .0)
 
--- src/lib.rt:105:39
 slice-aggregate-write-answer : tie.Need-slice-aggregate-write-answer
 slice-aggregate-write-answer c = let L = loaded (c .before .before .before .before .before .before .before .before .before .before .before .before .before .before .before .before .args .sheet .now) _ _ (c .before .before .before .before .before .before .before .before .read .last .1 .0) (c .before .before .before .before .before .before .before .before .read .last .1 .1 .0) (c .before .before .before .before .header .given .0 .0) (sym (c .before .before .before .before .header .given .1) ∙ c .before .before .before .before .before .before .before .before .read .ensures .0) (c .before .before .before .before .before .before .before .before .read .ensures .1 .0) (c .before .before .before .before .before .before .before .before .read .ensures .1 .1) in sym (L .whole .held .0)
 
--- src/lib.rt:105:57
 array-share-prefix-marks : tie.Need-array-share-prefix-marks
 array-share-prefix-marks c = let L = loaded (c .before .before .before .before .before .before .before .before .before .before .before .before .before .before .before .before .args .sheet .now) _ _ (c .before .before .before .before .before .before .before .before .read .last .1 .0) (c .before .before .before .before .before .before .before .before .read .last .1 .1 .0) (c .before .before .before .before .header .given .0 .0) (sym (c .before .before .before .before .header .given .1) ∙ c .before .before .before .before .before .before .before .before .read .ensures .0) (c .before .before .before .before .before .before .before .before .read .ensures .1 .0) (c .before .before .before .before .before .before .before .before .read .ensures .1 .1) in omega (arith, L .whole .few, L .whole .proper .few, c .before .before .before .before .before .before .before .before .read .kept .1 .1 .0)
 
--- src/lib.rt:105:57
 slice-aggregate-write-answer-2 : tie.Need-slice-aggregate-write-answer-2
 slice-aggregate-write-answer-2 c = let L = loaded (c .before .before .before .before .before .before .before .before .before .before .before .before .before .before .before .before .before .args .sheet .now) _ _ (c .before .before .before .before .before .before .before .before .before .read .last .1 .0) (c .before .before .before .before .before .before .before .before .before .read .last .1 .1 .0) (c .before .before .before .before .before .header .given .0 .0) (sym (c .before .before .before .before .before .header .given .1) ∙ c .before .before .before .before .before .before .before .before .before .read .ensures .0) (c .before .before .before .before .before .before .before .before .before .read .ensures .1 .0) (c .before .before .before .before .before .before .before .before .before .read .ensures .1 .1) in sym (L .whole .held .1)
 
--- src/lib.rt:105:9
 write-answer-requires : tie.Need-write-answer-requires
 write-answer-requires c κs = let L = loaded (c .before .before .before .before .before .before .before .before .before .before .before .before .before .before .before .before .before .before .before .args .sheet .now) _ _ (c .before .before .before .before .before .before .before .before .before .before .before .read .last .1 .0) (c .before .before .before .before .before .before .before .before .before .before .before .read .last .1 .1 .0) (c .before .before .before .before .before .before .before .header .given .0 .0) (sym (c .before .before .before .before .before .before .before .header .given .1) ∙ c .before .before .before .before .before .before .before .before .before .before .before .read .ensures .0) (c .before .before .before .before .before .before .before .before .before .before .before .read .ensures .1 .0) (c .before .before .before .before .before .before .before .before .before .before .before .read .ensures .1 .1) in (L .whole, c .before .before .before .before .before .before .before .before .before .before .before .before .before .before .before .if1 .left, c .before .before .before .before .before .before .before .before .before .before .before .before .before .before .if2 .left)
 
--- src/lib.rt:106:5
 zero-requires : tie.Need-zero-requires
 zero-requires c κs = search needs
 
--- src/lib.rt:88:1
 same-length : tie.Need-same-length
 same-length c = search needs
 
--- src/lib.rt:88:1
 same-length-2 : tie.Need-same-length-2
 same-length-2 c = search needs
 
--- src/lib.rt:88:1
 returns-4 : tie.Need-returns-4
 unfolding passed
 returns-4 c =

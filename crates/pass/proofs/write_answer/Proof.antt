@@ -13,49 +13,39 @@ use Rattle.pass.proofs.write_answer.Statement.{statement}
 use Rattle.pass.proofs.write_answer.Tie as tie
 use Rattle.pass.proofs.write_answer.Reads as reads
 use Rattle.pass.proofs.write_answer.Lts as lts
-use Rattle.judge.proofs.fill_rows.Reads as fill-rows-reads
+use Rattle.fits.proofs.fill_rows.Reads as fill-rows-reads
 use Rattle.judge.proofs.judge.Reads as judge-reads
 use Rattle.pass.proofs.list_reasons.Reads as list-reasons-reads
-use Rattle.pass.proofs.write_stands.Reads as write-stands-reads
+use Rattle.marking.proofs.write_stands.Reads as write-stands-reads
 use Rattle.slip.proofs.write_slip.Reads as write-slip-reads
 
--- src/lib.rt:75:43
 slice-aggregate-fill-rows : tie.Need-slice-aggregate-fill-rows
 slice-aggregate-fill-rows c = search needs
 
--- src/lib.rt:75:5
 fill-rows-requires : tie.Need-fill-rows-requires
 fill-rows-requires c κs = search needs
 
--- src/lib.rt:77:53
 slice-aggregate-judge : tie.Need-slice-aggregate-judge
 slice-aggregate-judge c = search needs
 
--- src/lib.rt:77:60
 slice-aggregate-judge-2 : tie.Need-slice-aggregate-judge-2
 slice-aggregate-judge-2 c = search needs
 
--- src/lib.rt:77:9
 judge-requires : tie.Need-judge-requires
 judge-requires c κs = search needs
 
--- src/lib.rt:79:50
 slice-aggregate-write-stands : tie.Need-slice-aggregate-write-stands
 slice-aggregate-write-stands c = search needs
 
--- src/lib.rt:79:9
 write-stands-requires : tie.Need-write-stands-requires
 write-stands-requires c κs = search needs
 
--- src/lib.rt:79:9
 same-length : tie.Need-same-length
 same-length c = search needs
 
--- src/lib.rt:79:9
 same-length-2 : tie.Need-same-length-2
 same-length-2 c = search needs
 
--- src/lib.rt:79:9
 returns : tie.Need-returns
 returns c =
     let s = c .before .before .before .before .before .before .before .before .before .before .before .before .before .before .before .before .before .before .before .before .before in
@@ -64,19 +54,15 @@ returns c =
     let e = stands-slip (s .pre .0) (j .result) (j .last .1 .1 .1 .1 .0) (j .ensures .0) (c .before .before .before .before .before .if1 .taken) in
     (w .ensures .0 ∙ ap length e, (w .ensures .1 ∙ ap (λ (xs : List ℕ). front xs (s .args .slip .now)) e, j .ensures .1))
 
--- src/lib.rt:83:47
 array-share-prefix-goals : tie.Need-array-share-prefix-goals
 array-share-prefix-goals c = search needs
 
--- src/lib.rt:83:47
 slice-aggregate-list-reasons : tie.Need-slice-aggregate-list-reasons
 slice-aggregate-list-reasons c = let j = c .before .before .before .before .before .before .judge in sym (length-take-le (j .result .count) (j .last .1 .1 .1 .1 .0) (omega (arith, j .ensures .0 .count, j .kept .1 .1 .1 .1 .0)))
 
--- src/lib.rt:83:70
 slice-aggregate-list-reasons-2 : tie.Need-slice-aggregate-list-reasons-2
 slice-aggregate-list-reasons-2 c = search needs
 
--- src/lib.rt:83:9
 list-reasons-requires : tie.Need-list-reasons-requires
 list-reasons-requires c κs =
     let s = c .before .before .before .before .before .before .before .before .before .before .before .before .before .before .before .before .before .before .before in
@@ -84,23 +70,18 @@ list-reasons-requires c κs =
     let n = c .before .before .before .if1 .left in
     ((s .pre .0, goals-fit (s .pre .0) (j .result) (j .last .1 .1 .1 .1 .0) (j .ensures .0) n), (omega (arith, s .pre .1, j .kept .1 .1 .1 .1 .1 .0), omega arith, unmet (s .pre .0) (j .result) (j .last .1 .1 .1 .1 .0) (j .ensures .0) n))
 
--- src/lib.rt:84:44
 array-share-prefix-goals-2 : tie.Need-array-share-prefix-goals-2
 array-share-prefix-goals-2 c = search needs
 
--- src/lib.rt:84:44
 slice-aggregate-write-slip : tie.Need-slice-aggregate-write-slip
 slice-aggregate-write-slip c = let j = c .before .before .before .before .before .before .before .before .before .before .before .before .before .before .judge in sym (length-take-le (j .result .count) (j .last .1 .1 .1 .1 .0) (omega (arith, j .ensures .0 .count, j .kept .1 .1 .1 .1 .0)))
 
--- src/lib.rt:84:61
 array-share-prefix-list : tie.Need-array-share-prefix-list
 array-share-prefix-list c = let s = c .before .before .before .before .before .before .before .before .before .before .before .before .before .before .before .before .before .before .before .before .before .before .before .before .before in let r = c .before .before .before .before .before .list-reasons in reasons-inside (s .pre .0) _ (r .last .1 .1 .1 .1 .1 .0) (r .result) (r .ensures .0) (r .kept .1 .1 .1 .1 .1 .0)
 
--- src/lib.rt:84:61
 slice-aggregate-write-slip-2 : tie.Need-slice-aggregate-write-slip-2
 slice-aggregate-write-slip-2 c = let s = c .before .before .before .before .before .before .before .before .before .before .before .before .before .before .before .before .before .before .before .before .before .before .before .before .before .before in let r = c .before .before .before .before .before .before .list-reasons in sym (length-take-le (r .result) (r .last .1 .1 .1 .1 .1 .0) (reasons-inside (s .pre .0) _ (r .last .1 .1 .1 .1 .1 .0) (r .result) (r .ensures .0) (r .kept .1 .1 .1 .1 .1 .0)))
 
--- src/lib.rt:84:5
 write-slip-requires : tie.Need-write-slip-requires
 write-slip-requires c κs =
     let s = c .before .before .before .before .before .before .before .before .before .before .before .before .before .before .before .before .before .before .before .before .before .before .before .before .before .before in
@@ -108,15 +89,12 @@ write-slip-requires c κs =
     let r = c .before .before .before .before .before .before .list-reasons in
     slip-room (s .pre .0) (j .result) (j .last .1 .1 .1 .1 .0) (j .ensures .0) (c .before .before .before .before .before .before .before .before .before .before .if1 .left) _ (s .pre .2) _ (r .last .1 .1 .1 .1 .1 .0) (r .result) (r .ensures .0) (r .ensures .1 .0)
 
--- src/lib.rt:68:1
 same-length-3 : tie.Need-same-length-3
 same-length-3 c = search needs
 
--- src/lib.rt:68:1
 same-length-4 : tie.Need-same-length-4
 same-length-4 c = search needs
 
--- src/lib.rt:68:1
 returns-2 : tie.Need-returns-2
 returns-2 c =
     let s = c .before .before .before .before .before .before .before .before .before .before .before .before .before .before .before .before .before .before .before .before .before .before .before .before .before .before .before .before .before in

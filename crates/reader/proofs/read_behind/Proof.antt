@@ -1,7 +1,7 @@
 -- `read_behind` reads the arcs, then the marks, and then judges the whole: each part decides the next step. Assumes nothing.
 use borrow.Author.Needs.{needs}
 use mathlib.Core.Path.{refl, ap, sym, _∙_}
-use Rattle.varint.specs.Answer.{sectionOf}
+use Rattle.numbers.specs.Answer.{sectionOf}
 use Rattle.reader.specs.Answer.{arcsBehind}
 use Rattle.reader.proofs.TakenLaws.{arcs-refused, marks-left, marks-refused, bytes-left, too-many, all-taken, count-held}
 use Rattle.reader.proofs.read_behind.Statement.{statement}

@@ -3,7 +3,7 @@ use mathlib.Core.Path.{refl, sym, _∙_}
 use native.Mathlib.Omega.{arith}
 use lib.Seq.{length-take-le}
 use borrow.Author.Tests.{not-true, not-false}
-use Rattle.reader.specs.Answer.{sheetOf}
+use Rattle.required.specs.Held.{sheetOf}
 use Rattle.pass.proofs.AnswerLaws.{reasons-inside}
 use Rattle.reason.proofs.ItemLaws.{no-item, not-pruned, one-goal, pruned-unmet, item-room, explains}
 use borrow.Author.Needs.{needs}
@@ -15,72 +15,57 @@ use Rattle.pass.proofs.list_reasons.Reads as list-reasons-reads
 use Rattle.reason.proofs.is_pruned.Reads as is-pruned-reads
 use Rattle.slip.proofs.write_slip.Reads as write-slip-reads
 
--- src/lib.rt:54:8
 add-if1 : tie.Need-add-if1
 add-if1 c = search needs
 
--- src/lib.rt:55:9
 returns : tie.Need-returns
 returns c = let s = c .before .before .before .before .before .before in (no-item (s .pre .0) (s .args .item) (s .args .slip .now) (c .if1 .taken), refl)
 
--- src/lib.rt:57:9
 is-pruned-requires : tie.Need-is-pruned-requires
 is-pruned-requires c κs = search needs
 
--- src/lib.rt:58:9
 same-length : tie.Need-same-length
 same-length c = search needs
 
--- src/lib.rt:58:9
 returns-2 : tie.Need-returns-2
 returns-2 c =
     let s = c .before .before .before .before .before .before .before .before .before .before .before in
     let p = c .before .before .before .is-pruned in
     (not-pruned (s .pre .0) (s .args .item) (s .args .slip .now) (c .before .before .before .before .before .if1 .left) (sym (p .ensures .0) ∙ not-true _ (c .if2 .taken)), p .ensures .1)
 
--- src/lib.rt:62:53
 slice-aggregate-list-reasons : tie.Need-slice-aggregate-list-reasons
 slice-aggregate-list-reasons c = search needs
 
--- src/lib.rt:62:67
 slice-aggregate-list-reasons-2 : tie.Need-slice-aggregate-list-reasons-2
 slice-aggregate-list-reasons-2 c = search needs
 
--- src/lib.rt:62:9
 list-reasons-requires : tie.Need-list-reasons-requires
 list-reasons-requires c κs =
     let s = c .before .before .before .before .before .before .before .before .before .before .before .before .before .before in
     let p = c .before .before .before .before .before .before .is-pruned in
     ((s .pre .0, one-goal (s .pre .0) (s .args .item) (s .args .slip .now) (c .before .before .before .before .before .before .before .before .if1 .left)), (omega (arith, s .pre .1, p .kept .1 .1 .1 .0), omega arith, pruned-unmet (sheetOf (s .args .header) (s .args .arcs .now) (s .args .marks .now)) (s .args .item) (sym (p .ensures .0) ∙ not-false _ (c .before .before .before .if2 .left))))
 
--- src/lib.rt:65:48
 slice-aggregate-write-slip : tie.Need-slice-aggregate-write-slip
 slice-aggregate-write-slip c = search needs
 
--- src/lib.rt:65:56
 array-share-prefix-list : tie.Need-array-share-prefix-list
 array-share-prefix-list c = let s = c .before .before .before .before .before .before .before .before .before .before .before .before .before .before .before .before .before .before .before .before in let r = c .before .before .before .before .before .list-reasons in reasons-inside (s .pre .0) _ (r .last .1 .1 .1 .1 .1 .0) (r .result) (r .ensures .0) (r .kept .1 .1 .1 .1 .1 .0)
 
--- src/lib.rt:65:56
 slice-aggregate-write-slip-2 : tie.Need-slice-aggregate-write-slip-2
 slice-aggregate-write-slip-2 c = let s = c .before .before .before .before .before .before .before .before .before .before .before .before .before .before .before .before .before .before .before .before .before in let r = c .before .before .before .before .before .before .list-reasons in sym (length-take-le (r .result) (r .last .1 .1 .1 .1 .1 .0) (reasons-inside (s .pre .0) _ (r .last .1 .1 .1 .1 .1 .0) (r .result) (r .ensures .0) (r .kept .1 .1 .1 .1 .1 .0)))
 
--- src/lib.rt:65:17
 write-slip-requires : tie.Need-write-slip-requires
 write-slip-requires c κs =
     let s = c .before .before .before .before .before .before .before .before .before .before .before .before .before .before .before .before .before .before .before .before .before in
     let r = c .before .before .before .before .before .before .list-reasons in
     item-room (s .pre .0) (s .args .item) (s .args .slip .now) (c .before .before .before .before .before .before .before .before .before .before .before .before .before .before .before .if1 .left) _ (s .pre .2) _ (r .last .1 .1 .1 .1 .1 .0) (r .result) (r .ensures .0) (r .ensures .1 .0)
 
--- src/lib.rt:42:1
 same-length-2 : tie.Need-same-length-2
 same-length-2 c = search needs
 
--- src/lib.rt:42:1
 same-length-3 : tie.Need-same-length-3
 same-length-3 c = search needs
 
--- src/lib.rt:42:1
 returns-3 : tie.Need-returns-3
 returns-3 c =
     let s = c .before .before .before .before .before .before .before .before .before .before .before .before .before .before .before .before .before .before .before .before .before .before .before .before in

@@ -5,9 +5,9 @@ use native.Mathlib.Omega.{arith}
 use Rattle.varint.specs.Varint.{got}
 use Rattle.sheet.specs.Sheet.{Sheet}
 use Rattle.sheet.proofs.RefusalLaws.{taken-refuses}
-use Rattle.judge.proofs.LoadedLaws.{loaded, unloaded}
+use Rattle.reader.proofs.LoadedLaws.{loaded, unloaded}
 use Rattle.pass.proofs.OutcomeLaws.{short-work, short-slip, early}
-use Rattle.reason.specs.Reason.{reasonOn, reasoned}
+use Rattle.blame.specs.Reason.{reasonOn, reasoned}
 use Rattle.reason.proofs.SaidLaws.{bad-sheet, said}
 use borrow.Author.Needs.{needs}
 use Rattle.reason.proofs.reason.Statement.{statement}
@@ -18,37 +18,29 @@ use Rattle.lent.proofs.zero.Reads as zero-reads
 use Rattle.reader.proofs.read.Reads as read-reads
 use Rattle.reason.proofs.explain_item.Reads as explain-item-reads
 
--- src/lib.rt:74:9
 returns : tie.Need-returns
 unfolding reasoned
 returns c = let s = c .before .before .before .before in short-work (reasonOn (s .args .sheet .now) (s .args .item)) (s .args .work .now) (s .args .slip .now) (c .if1 .taken)
 
--- src/lib.rt:77:9
 returns-2 : tie.Need-returns-2
 unfolding reasoned
 returns-2 c = let s = c .before .before .before .before .before in short-slip (reasonOn (s .args .sheet .now) (s .args .item)) (s .args .work .now) (s .args .slip .now) (c .before .if1 .left) (c .if2 .taken)
 
--- src/lib.rt:81:44
 slice-aggregate-read : tie.Need-slice-aggregate-read
 slice-aggregate-read c = search needs
 
--- src/lib.rt:81:55
 slice-aggregate-read-2 : tie.Need-slice-aggregate-read-2
 slice-aggregate-read-2 c = search needs
 
--- src/lib.rt:81:24
 read-requires : tie.Need-read-requires
 read-requires c κs = search needs
 
--- src/lib.rt:82:26
 enum-known-header : tie.Need-enum-known-header
 enum-known-header c = search needs
 
--- src/lib.rt:83:28
 enum-known-why : tie.Need-enum-known-why
 enum-known-why c = search needs
 
--- src/lib.rt:83:36
 returns-3 : tie.Need-returns-3
 unfolding reasoned
 returns-3 c =
@@ -56,47 +48,36 @@ returns-3 c =
     let u = unloaded (s .args .sheet .now) _ (sym (c .before .why .given .1) ∙ c .before .before .before .before .before .read .ensures .0) in
     early (reasonOn (s .args .sheet .now) (s .args .item)) (s .args .work .now) (s .args .slip .now) (c .before .before .before .before .before .before .before .before .before .if1 .left) (c .before .before .before .before .before .before .before .before .if2 .left) _ (bad-sheet (s .args .sheet .now) (s .args .item) _ u) (taken-refuses (s .args .sheet .now) _ u .1)
 
--- src/lib.rt:85:19
 mul-numbers : tie.Need-mul-numbers
 mul-numbers c = let L = loaded (c .before .before .before .before .before .before .before .before .before .before .before .before .before .before .args .sheet .now) _ _ (c .before .before .before .before .before .before .read .last .1 .0) (c .before .before .before .before .before .before .read .last .1 .1 .0) (c .before .before .header .given .0 .0) (sym (c .before .before .header .given .1) ∙ c .before .before .before .before .before .before .read .ensures .0) (c .before .before .before .before .before .before .read .ensures .1 .0) (c .before .before .before .before .before .before .read .ensures .1 .1) in omega (arith, L .whole .few)
 
--- src/lib.rt:86:17
 add-items : tie.Need-add-items
 add-items c = let L = loaded (c .before .before .before .before .before .before .before .before .before .before .before .before .before .before .before .args .sheet .now) _ _ (c .before .before .before .before .before .before .before .read .last .1 .0) (c .before .before .before .before .before .before .before .read .last .1 .1 .0) (c .before .before .before .header .given .0 .0) (sym (c .before .before .before .header .given .1) ∙ c .before .before .before .before .before .before .before .read .ensures .0) (c .before .before .before .before .before .before .before .read .ensures .1 .0) (c .before .before .before .before .before .before .before .read .ensures .1 .1) in omega (arith, L .whole .few, L .whole .proper .few)
 
--- src/lib.rt:89:9
 array-share-prefix-arcs : tie.Need-array-share-prefix-arcs
 array-share-prefix-arcs c = let L = loaded (c .before .before .before .before .before .before .before .before .before .before .before .before .before .before .before .args .sheet .now) _ _ (c .before .before .before .before .before .before .before .read .last .1 .0) (c .before .before .before .before .before .before .before .read .last .1 .1 .0) (c .before .before .before .header .given .0 .0) (sym (c .before .before .before .header .given .1) ∙ c .before .before .before .before .before .before .before .read .ensures .0) (c .before .before .before .before .before .before .before .read .ensures .1 .0) (c .before .before .before .before .before .before .before .read .ensures .1 .1) in omega (arith, L .whole .few, c .before .before .before .before .before .before .before .read .kept .1 .0)
 
--- src/lib.rt:89:9
 slice-aggregate-explain-item : tie.Need-slice-aggregate-explain-item
 slice-aggregate-explain-item c = let L = loaded (c .before .before .before .before .before .before .before .before .before .before .before .before .before .before .before .before .args .sheet .now) _ _ (c .before .before .before .before .before .before .before .before .read .last .1 .0) (c .before .before .before .before .before .before .before .before .read .last .1 .1 .0) (c .before .before .before .before .header .given .0 .0) (sym (c .before .before .before .before .header .given .1) ∙ c .before .before .before .before .before .before .before .before .read .ensures .0) (c .before .before .before .before .before .before .before .before .read .ensures .1 .0) (c .before .before .before .before .before .before .before .before .read .ensures .1 .1) in sym (L .whole .held .0)
 
--- src/lib.rt:90:9
 array-share-prefix-marks : tie.Need-array-share-prefix-marks
 array-share-prefix-marks c = let L = loaded (c .before .before .before .before .before .before .before .before .before .before .before .before .before .before .before .before .args .sheet .now) _ _ (c .before .before .before .before .before .before .before .before .read .last .1 .0) (c .before .before .before .before .before .before .before .before .read .last .1 .1 .0) (c .before .before .before .before .header .given .0 .0) (sym (c .before .before .before .before .header .given .1) ∙ c .before .before .before .before .before .before .before .before .read .ensures .0) (c .before .before .before .before .before .before .before .before .read .ensures .1 .0) (c .before .before .before .before .before .before .before .before .read .ensures .1 .1) in omega (arith, L .whole .few, L .whole .proper .few, c .before .before .before .before .before .before .before .before .read .kept .1 .1 .0)
 
--- src/lib.rt:90:9
 slice-aggregate-explain-item-2 : tie.Need-slice-aggregate-explain-item-2
 slice-aggregate-explain-item-2 c = let L = loaded (c .before .before .before .before .before .before .before .before .before .before .before .before .before .before .before .before .before .args .sheet .now) _ _ (c .before .before .before .before .before .before .before .before .before .read .last .1 .0) (c .before .before .before .before .before .before .before .before .before .read .last .1 .1 .0) (c .before .before .before .before .before .header .given .0 .0) (sym (c .before .before .before .before .before .header .given .1) ∙ c .before .before .before .before .before .before .before .before .before .read .ensures .0) (c .before .before .before .before .before .before .before .before .before .read .ensures .1 .0) (c .before .before .before .before .before .before .before .before .before .read .ensures .1 .1) in sym (L .whole .held .1)
 
--- src/lib.rt:87:9
 explain-item-requires : tie.Need-explain-item-requires
 explain-item-requires c κs = let L = loaded (c .before .before .before .before .before .before .before .before .before .before .before .before .before .before .before .before .before .before .before .args .sheet .now) _ _ (c .before .before .before .before .before .before .before .before .before .before .before .read .last .1 .0) (c .before .before .before .before .before .before .before .before .before .before .before .read .last .1 .1 .0) (c .before .before .before .before .before .before .before .header .given .0 .0) (sym (c .before .before .before .before .before .before .before .header .given .1) ∙ c .before .before .before .before .before .before .before .before .before .before .before .read .ensures .0) (c .before .before .before .before .before .before .before .before .before .before .before .read .ensures .1 .0) (c .before .before .before .before .before .before .before .before .before .before .before .read .ensures .1 .1) in (L .whole, c .before .before .before .before .before .before .before .before .before .before .before .before .before .before .before .if1 .left, c .before .before .before .before .before .before .before .before .before .before .before .before .before .before .if2 .left)
 
--- src/lib.rt:95:5
 zero-requires : tie.Need-zero-requires
 zero-requires c κs = search needs
 
--- src/lib.rt:70:1
 same-length : tie.Need-same-length
 same-length c = search needs
 
--- src/lib.rt:70:1
 same-length-2 : tie.Need-same-length-2
 same-length-2 c = search needs
 
--- src/lib.rt:70:1
 returns-4 : tie.Need-returns-4
 unfolding reasoned
 returns-4 c =

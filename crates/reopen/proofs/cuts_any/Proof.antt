@@ -4,7 +4,7 @@ use native.Mathlib.Omega.{arith}
 use mathlib.Core.Bool.{true≢false}
 use borrow.Author.Count.{below-more}
 use Rattle.reopen.specs.Openings.{Untouched}
-use Rattle.reopen.proofs.PartLaws.{part-row, part-length}
+use Rattle.kept.proofs.PartLaws.{part-row, part-length}
 use Rattle.reopen.proofs.cuts_any.Statement.{statement}
 use Rattle.reopen.proofs.cuts_any.Tie as tie
 

@@ -1,12 +1,12 @@
 -- `report` prints what its call of pass answers: the refusal's line, or the text of the slip. Assumes nothing.
 use borrow.Author.Needs.{needs}
 use native.Mathlib.Omega.{arith}
-use Rattle.report.proofs.LineParts.{small-one, within}
+use Rattle.answer.proofs.LineParts.{small-one, within}
 use Rattle.lines.specs.Lines.{line}
-use Rattle.report.specs.Text.{refusedWord, slipText}
+use Rattle.answer.specs.Text.{refusedWord, slipText}
 use mathlib.Core.List.{[], _∷_}
 use lib.ListN.{take}
-use Rattle.report.proofs.AnswerLaws.{work-left, refused-call, finished-call}
+use Rattle.report.proofs.AnswerLaws.{line-fits, work-left, refused-call, finished-call}
 use Rattle.report.proofs.report.Statement.{statement}
 use Rattle.report.proofs.report.Tie as tie
 
@@ -30,7 +30,7 @@ put-line-requires c κs =
     let s = c .before .before .before .before .before .before .before .before .before .before .before .before .before .before .before in
     let p = c .before .before .before .before .before .before .before .before .before .pass in
     let r = refused-call (s .args .sheet .now) (s .args .work .now) _ (omega arith) _ _ _ _ (p .ensures) (c .before .before .before .before .if1 .taken) in
-    (small-one (p .result .number) (omega (arith, r .high)), omega (arith, r .room, s .pre))
+    (small-one _ (omega (arith, r .high)), line-fits refusedWord _ (s .args .out .now) (omega arith) (s .pre))
 
 same-length : tie.Need-same-length
 same-length c = search needs

@@ -3,8 +3,8 @@ use borrow.Author.Needs.{needs}
 use mathlib.Core.Path.{sym, ap, _∙_, subst}
 use native.Mathlib.Omega.{arith}
 use lib.ListN.{length}
-use Rattle.judge.proofs.JudgeLaws.{listed-front}
-use Rattle.slip.specs.Form.{slipOf, valuesAt, SlipCounts}
+use Rattle.required.proofs.HeldLaws.{listed-front}
+use Rattle.form.specs.Form.{slipOf, valuesAt, SlipCounts}
 use Rattle.report.proofs.SlipTextLaws.{never-unformed, told}
 use Rattle.report.proofs.write_blame.Statement.{statement}
 use Rattle.report.proofs.write_blame.Tie as tie

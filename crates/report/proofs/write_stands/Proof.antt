@@ -4,10 +4,10 @@ use Prim.Native.Nat.{_+_}
 use mathlib.Core.Path.{sym, ap, _∙_}
 use native.Mathlib.Omega.{arith}
 use lib.ListN.{length, take}
-use Rattle.judge.proofs.JudgeLaws.{listed-front}
-use Rattle.judge.proofs.LoadedLaws.{loaded, unloaded}
+use Rattle.required.proofs.HeldLaws.{listed-front}
+use Rattle.reader.proofs.LoadedLaws.{loaded, unloaded}
 use Rattle.sheet.specs.Sheet.{Sheet}
-use Rattle.report.specs.Text.{newlyForbidden}
+use Rattle.answer.specs.Text.{newlyForbidden}
 use Rattle.report.proofs.SlipTextLaws.{never-refused, stands-is}
 use Rattle.report.proofs.write_stands.Statement.{statement}
 use Rattle.report.proofs.write_stands.Tie as tie

@@ -1,8 +1,8 @@
 -- `arc_at` gives what `readArc` gives: each of its three numbers decides in turn. Assumes nothing.
 use borrow.Author.Needs.{needs}
 use mathlib.Core.Path.{ap, sym, _∙_}
-use Rattle.sections.specs.Sections.{judgedOf}
-use Rattle.sections.proofs.ReadLaws.{tail-not, head-not, head-tail, minutes-not, arc-found}
+use Rattle.values.specs.Values.{judgedOf}
+use Rattle.values.proofs.ReadLaws.{tail-not, head-not, head-tail, minutes-not, arc-found}
 use Rattle.sections.proofs.arc_at.Statement.{statement}
 use Rattle.sections.proofs.arc_at.Tie as tie
 

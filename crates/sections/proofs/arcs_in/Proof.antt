@@ -7,7 +7,7 @@ use lib.ListN.{drop, length-set}
 use Rattle.walks.specs.Flat.{flat}
 use Rattle.sheet.specs.Reader.{readArc}
 use Rattle.sections.specs.Sections.{arcOf}
-use Rattle.varint.proofs.SeveralLaws.{Filling, start, more, stops, done}
+use Rattle.numbers.proofs.SeveralLaws.{Filling, start, more, stops, done}
 use Rattle.sections.proofs.SectionLaws.{flat-none, arcs-kept, arc-stored}
 use Rattle.sections.proofs.arcs_in.Statement.{statement}
 use Rattle.sections.proofs.arcs_in.Tie as tie

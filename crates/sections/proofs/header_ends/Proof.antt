@@ -2,8 +2,8 @@
 use borrow.Author.Needs.{needs}
 use mathlib.Core.Path.{ap, sym, _∙_}
 use native.Mathlib.Omega.{arith}
-use Rattle.sections.specs.Sections.{judgedOf, nextOf}
-use Rattle.sections.proofs.ReadLaws.{number-below}
+use Rattle.values.specs.Values.{judgedOf, nextOf}
+use Rattle.values.proofs.ReadLaws.{number-below}
 use Rattle.sections.proofs.HeaderLaws.{source-not, target-not, target-source, limit-not, header-read}
 use Rattle.sections.proofs.header_ends.Statement.{statement}
 use Rattle.sections.proofs.header_ends.Tie as tie

@@ -2,8 +2,8 @@
 use borrow.Author.Needs.{needs}
 use mathlib.Core.Path.{ap, sym, _∙_}
 use native.Mathlib.Omega.{arith}
-use Rattle.sections.specs.Sections.{judgedOf}
-use Rattle.sections.proofs.ReadLaws.{number-below}
+use Rattle.values.specs.Values.{judgedOf}
+use Rattle.values.proofs.ReadLaws.{number-below}
 use Rattle.sections.proofs.HeaderLaws.{nodes-not, nodes-low, arcs-not, arcs-read}
 use Rattle.sections.proofs.header_of.Statement.{statement}
 use Rattle.sections.proofs.header_of.Tie as tie

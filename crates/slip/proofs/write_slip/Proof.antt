@@ -5,8 +5,8 @@ use mathlib.Core.List.{_++_}
 use lib.ListN.{length-append}
 use Rattle.lists.proofs.FrontLaws.{put, put-within, put-room, put-on}
 use Rattle.varint.specs.Varint.{writeNumber}
-use Rattle.slip.specs.Form.{listBytes}
-use Rattle.slip.proofs.FormLaws.{slip-parts, small-parts, first-part, two-parts}
+use Rattle.form.specs.Form.{listBytes}
+use Rattle.form.proofs.FormLaws.{slip-parts, small-parts, first-part, two-parts}
 use Rattle.slip.proofs.write_slip.Statement.{statement}
 use Rattle.slip.proofs.write_slip.Tie as tie
 

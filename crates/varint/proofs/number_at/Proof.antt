@@ -26,7 +26,7 @@ wide-requires : tie.Need-wide-requires Inv-loop μ-loop
 wide-requires c κs = search needs
 
 returns : tie.Need-returns Inv-loop μ-loop
-returns c = (needless (c .before .before .before .before .before .before .loop .inv) (c .before .before .before .before .before .loop-test .taken) (sym (c .before .before .before .wide .ensures .0) ∙ c .before .if2 .taken) (c .if3 .taken), omega arith)
+returns c = (needless (c .before .before .before .before .before .before .loop .inv) (c .before .before .before .before .before .loop-test .taken) (sym (c .before .before .before .wide .ensures .0) ∙ c .before .if2 .taken) (omega (arith, c .if3 .taken)), omega arith)
 
 mul-t14 : tie.Need-mul-t14 Inv-loop μ-loop
 mul-t14 c = omega (arith, product-low {b = c .before .before .wide .result} (c .before .before .before .before .before .loop .inv) (omega arith))

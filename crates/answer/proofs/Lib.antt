@@ -1,0 +1,3 @@
+pub mod LineParts
+pub mod StruckLaws
+pub mod SheetB

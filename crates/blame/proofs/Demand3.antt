@@ -1,0 +1,198 @@
+-- Demand 3, over bytes: the closures listed are what did it, on every accepted later sheet, and none of them can be spared. The list blocks its goals
+-- by itself (`reasons-valid`), so it does so wherever it is shut and the limit is no greater. Assumes nothing.
+use Prim.Native.Nat.{ℕ, zero, suc, _≤_, _<_}
+use mathlib.Core.Path.{_≡_, refl, sym, ap, _∙_, subst}
+use mathlib.Core.Logic.{_⊎_, inl, inr}
+use mathlib.Core.Bool.{true, false, not, true≢false}
+use mathlib.Core.List.{List, [], _∷_}
+use native.Mathlib.Omega.{arith}
+use lib.ListN.{getD}
+use lib.Seq.{ext-getD}
+use lib.Dec.{eqb}
+use borrow.Author.Tests.{eqb-true, eqb-false}
+use Rattle.explain.proofs.ReasonLaws.{reasons-closed, reasons-valid, reasons-minimal}
+use Rattle.explain.specs.Reasons.{but}
+use Rattle.lists.proofs.MemberLaws.{member-head, member-cases, member-none}
+use Rattle.lists.proofs.TestLaws.{false-back, and-true, not-true, true-or-false, false-of}
+use Rattle.lists.specs.Lists.{member}
+use Rattle.sheet.proofs.MarkLaws.{required-is, is-required, open-is, is-open, is-mandatory}
+use Rattle.sheet.proofs.SheetLaws.{good-mark}
+use Rattle.sheet.specs.Sheet.{Sheet, isForbidden, required, isOpen, markOf}
+use Rattle.sheet.specs.Slip.{Slip}
+use Rattle.varint.specs.Varint.{got}
+use Rattle.verdict.proofs.AcceptedLaws.{accepted-good}
+use Rattle.verdict.proofs.Demand2.{verdict-in, marks-exact, refuses-is, is-refused}
+use Rattle.verdict.proofs.SlipOfPass.{pass-finishes}
+use Rattle.verdict.proofs.VerdictLaws.{one, Stands, stands-all, fits-fewer, refused-goals, VerdictIs, verdict-is, two, three, stands, pruned-mark, other-mark}
+use Rattle.verdict.specs.Accepted.{accepted}
+use Rattle.verdict.specs.Pass.{Refuses, EndsForbidden}
+use Rattle.verdict.specs.Verdict.{reasonsFor, fitsSheet, slipFor, Verdict, verdict, isPruned, newMark, passSlip}
+use Rattle.walks.proofs.FitsLaws.{fits-anti, none-fits}
+use Rattle.walks.specs.Graph.{Graph, Arc, noArc, tailOf, headOf, weightOf, itemCount}
+use Rattle.walks.specs.Walk.{NoWalk, SomeWalk}
+use Rattle.blame.proofs.AnswerLaws.{explained}
+use Rattle.blame.specs.Later.{SameMap, Later, Explains, Demanded}
+
+-- maps that agree arc by arc are one map
+arc-eq : (x y : Arc) → x .tail ≡ y .tail → x .head ≡ y .head → x .weight ≡ y .weight → x ≡ y
+arc-eq x y p q r =
+    ap {B = Arc} (λ (t : ℕ). record { tail = t; head = x .head; weight = x .weight }) p
+    ∙ ap {B = Arc} (λ (h : ℕ). record { tail = y .tail; head = h; weight = x .weight }) q
+    ∙ ap {B = Arc} (λ (w : ℕ). record { tail = y .tail; head = y .head; weight = w }) r
+
+map-eq : (G H : Graph) → SameMap G H → H ≡ G
+unfolding tailOf headOf weightOf
+map-eq G H e =
+    let a : H .arcs ≡ G .arcs =
+    ext-getD noArc (H .arcs) (G .arcs) (e .count)
+    (λ l h. arc-eq (getD (H .arcs) l noArc) (getD (G .arcs) l noArc) (e .tails l (rw (← (e .count)) h)) (e .heads l (rw (← (e .count)) h)) (e .weights l (rw (← (e .count)) h))) in
+    ap {B = Graph} (λ (n : ℕ). record { nodes = n; arcs = H .arcs }) (e .nodes) ∙ ap {B = Graph} (λ (xs : List Arc). record { nodes = G .nodes; arcs = xs }) a
+
+module _ (S : Sheet) (goals : List ℕ) where
+  list : List ℕ
+  list = reasonsFor S goals
+
+  -- each listed closure is shut on the sheet
+  pub listed-forbidden : (r : ℕ) → member r (reasonsFor S goals) ≡ true → isForbidden S r ≡ true
+  unfolding reasonsFor isForbidden
+  listed-forbidden r m = reasons-closed (S .graph) (S .source) (S .target) (S .limit) goals (S .marks) r m .0
+
+  -- no walk clear of the list, all else open, meets the goals within the limit
+  pub list-valid : fitsSheet S goals ≡ false → NoWalk (S .graph) (S .source) (S .target) (S .limit) (λ j. member j (reasonsFor S goals)) goals
+  unfolding reasonsFor fitsSheet isForbidden
+  list-valid e = reasons-valid (S .graph) (S .source) (S .target) (S .limit) goals (S .marks) e
+
+  -- with any one of the list open, and all that is not listed, some walk does
+  pub list-minimal : (r : ℕ) → member r (reasonsFor S goals) ≡ true
+      → SomeWalk (S .graph) (S .source) (S .target) (S .limit) (but (λ j. member j (reasonsFor S goals)) r) goals
+  unfolding reasonsFor
+  list-minimal r m = reasons-minimal (S .graph) (S .source) (S .target) (S .limit) goals (S .marks) r m
+
+  -- on a later sheet the goals are met by no walk either
+  pub list-blocks : (sheet : List ℕ) (T : Sheet) → fitsSheet S goals ≡ false → Later S (reasonsFor S goals) sheet T → fitsSheet T goals ≡ false
+  unfolding fitsSheet isForbidden
+  list-blocks sheet T e L =
+      rw (map-eq (S .graph) (T .graph) (L .map), L .source, L .target)
+      (fits-anti (S .graph) (S .source) (S .target) (T .limit) (S .limit) (isForbidden T) (λ j. member j (reasonsFor S goals)) goals goals
+      (λ j h o. false-back (member j (reasonsFor S goals)) (isForbidden T j) (L .closed j) o) (λ g m. m) (L .limit)
+      (none-fits (S .graph) (S .source) (S .target) (S .limit) (λ j. member j (reasonsFor S goals)) goals (list-valid e)))
+
+same-count : (S T : Sheet) → SameMap (S .graph) (T .graph) → itemCount (T .graph) ≡ itemCount (S .graph)
+same-count S T e = ap itemCount (map-eq (S .graph) (T .graph) e)
+
+-- what can be named on a sheet: nothing, one item, or all required nodes
+pub data Named (S : Sheet) : List ℕ → Type 0 where
+  nothing : Named S []
+  item : (i : ℕ) → i < itemCount (S .graph) → Named S (i ∷ [])
+  all : Named S (required S)
+
+verdict-names : (S : Sheet) → (verdict S .number ≡ 0 → ⊥) → Named S (verdict S .goals)
+verdict-names S n = go (verdict S) (verdict-is S) n
+  where
+    go : (v : Verdict) → VerdictIs S v → (v .number ≡ 0 → ⊥) → Named S (v .goals)
+    go v (one e) n = nothing
+    go v (two i s h m e l) n = item i h
+    go v (three s m e) n = all
+    go v (stands s m e) n = absurd (n refl)
+
+-- a required node that is demanded on a later sheet is required there
+required-there : (S T : Sheet) → SameMap (S .graph) (T .graph) → T .source ≡ S .source → T .target ≡ S .target → (g : ℕ) → member g (required S) ≡ true
+    → Demanded T g → member g (required T) ≡ true
+required-there S T e s t g m (inl q) =
+    let r = required-is S g m in
+    is-required T g
+    (record {
+      node = rw (e .nodes) (r .node);
+      between = (λ z. r .between .0 (z ∙ s), λ z. r .between .1 (z ∙ t));
+      demanded = inl q;
+    })
+required-there S T e s t g m (inr q) = q
+
+-- where a round stands, everything demanded is met
+stands-meets : (S T : Sheet) → SameMap (S .graph) (T .graph) → T .source ≡ S .source → T .target ≡ S .target → Stands T → {goals : List ℕ} → Named S goals
+    → ((g : ℕ) → member g goals ≡ true → Demanded T g) → fitsSheet T goals ≡ true
+stands-meets S T e s t z nothing d = z .some
+stands-meets S T e s t z (item i h) d = go (d i (member-head i []))
+  where
+    only : member i (required T) ≡ true → (j : ℕ) → (j ≡ i) ⊎ (member j [] ≡ true) → member j (required T) ≡ true
+    only m j (inl q) = rw q m
+    only m j (inr q) = absurd (member-none j q)
+
+    go : Demanded T i → fitsSheet T (i ∷ []) ≡ true
+    go (inl m) = z .each i (rw (same-count S T e) h) m
+    go (inr m) = fits-fewer T (required T) (i ∷ []) (λ j q. only m j (member-cases j i [] q)) (z .together)
+stands-meets S T e s t z all d = fits-fewer T (required T) (required S) (λ g m. required-there S T e s t g m (d g m)) (z .together)
+
+-- a pruned item is met by no walk
+pruned-unmet : (S : Sheet) (i : ℕ) → isPruned S i ≡ true → fitsSheet S (i ∷ []) ≡ false
+unfolding isPruned
+pruned-unmet S i p = not-true (fitsSheet S (i ∷ [])) (and-true (isOpen S i) (not (fitsSheet S (i ∷ []))) p .1)
+
+forbidden-stays : (S : Sheet) (i : ℕ) → markOf S i ≡ 2 → newMark S i ≡ 2
+forbidden-stays S i e = other-mark S i (false-of (isOpen S i) (λ o. absurd (omega (arith, open-is S i o, e)))) ∙ e
+
+-- on a later sheet an item that no walk meets ends forbidden, or the round is refused
+blocked-ends : (sheet : List ℕ) (T : Sheet) (i : ℕ) → accepted sheet ≡ got T [] → i < itemCount (T .graph) → fitsSheet T (i ∷ []) ≡ false
+    → EndsForbidden sheet i ⊎ ((s : Slip) × Refuses sheet s)
+blocked-ends sheet T i a h b = go (true-or-false (eqb (verdict T .number) 0))
+  where
+    ends : verdict T .number ≡ 0 → (m : ℕ) → markOf T i ≡ m → m ≤ 2 → newMark T i ≡ 2
+    ends z zero q k = pruned-mark T i (is-open T i q) .1 b
+    ends z (suc zero) q k = absurd (true≢false (sym (stands-all T z .each i h (is-mandatory T i q)) ∙ b))
+    ends z (suc (suc zero)) q k = forbidden-stays T i q
+    ends z (suc (suc (suc m))) q k = absurd (omega arith)
+
+    go : (eqb (verdict T .number) 0 ≡ true) ⊎ (eqb (verdict T .number) 0 ≡ false) → EndsForbidden sheet i ⊎ ((s : Slip) × Refuses sheet s)
+    go (inl q) =
+        let z = eqb-true (verdict T .number) 0 q in
+        let e = pass-finishes sheet T a in
+        let v = verdict-in sheet T a (passSlip T (verdict T)) e ∙ z in
+        inl (record {
+          slip = passSlip T (verdict T);
+          finishes = e;
+          stands = v;
+          mark = marks-exact sheet T a (passSlip T (verdict T)) e v i h ∙ ends z (markOf T i) refl (good-mark T (accepted-good sheet T [] a) i);
+        })
+    go (inr q) = inr (slipFor T (verdict T .number) (verdict T .goals), is-refused sheet T a (eqb-false (verdict T .number) 0 q))
+
+module _ (sheet : List ℕ) (S : Sheet) (a : accepted sheet ≡ got S []) where
+  -- Where an item was pruned, the pass on a later sheet ends with it shut or the round refused.
+  pub pruned-again : (i : ℕ) (s : Slip) → Explains sheet i s → (later : List ℕ) (T : Sheet) → Later S (s .reasons) later T
+      → EndsForbidden later i ⊎ ((s′ : Slip) × Refuses later s′)
+  unfolding slipFor
+  pruned-again i s x later T L =
+      let y = explained sheet S i s a x in
+      let L′ : Later S (reasonsFor S (i ∷ [])) later T = subst (λ (s : Slip). Later S (s .reasons) later T) (y .3) L in
+      blocked-ends later T i (L .accepts) (rw (same-count S T (L .map)) (y .0)) (list-blocks S (i ∷ []) later T (pruned-unmet S i (y .2)) L′)
+
+  -- Where the round was refused, the pass refuses a later sheet's round too, if everything named is demanded there.
+  pub refused-again : (s : Slip) → Refuses sheet s → (later : List ℕ) (T : Sheet) → Later S (s .reasons) later T
+      → ((g : ℕ) → member g (s .goals) ≡ true → Demanded T g) → (s′ : Slip) × Refuses later s′
+  unfolding slipFor
+  refused-again s r later T L d =
+      let y = refuses-is sheet S a s r in
+      let L′ : Later S (reasonsFor S (verdict S .goals)) later T = subst (λ (s : Slip). Later S (s .reasons) later T) (y .1) L in
+      let d′ : (g : ℕ) → member g (verdict S .goals) ≡ true → Demanded T g = subst (λ (s : Slip). (g : ℕ) → member g (s .goals) ≡ true → Demanded T g) (y .1) d in
+      let b = list-blocks S (verdict S .goals) later T (refused-goals S (y .0)) L′ in (
+        slipFor T (verdict T .number) (verdict T .goals),
+        is-refused later T (L .accepts) (λ z. true≢false (sym (stands-meets S T (L .map) (L .source) (L .target) (stands-all T z) (verdict-names S (y .0)) d′) ∙ b)),
+      )
+
+  -- For every closure listed, once it and everything unlisted are open and only the other listed ones shut, some walk within the limit meets
+  -- everything named: for a refused round,
+  pub refused-minimal : (s : Slip) → Refuses sheet s → (r : ℕ) → member r (s .reasons) ≡ true
+      → SomeWalk (S .graph) (S .source) (S .target) (S .limit) (but (λ j. member j (s .reasons)) r) (s .goals)
+  unfolding slipFor
+  refused-minimal s x r m =
+      let y = refuses-is sheet S a s x in
+      subst (λ (s : Slip). (r : ℕ) → member r (s .reasons) ≡ true → SomeWalk (S .graph) (S .source) (S .target) (S .limit) (but (λ j. member j (s .reasons)) r) (s .goals))
+      (sym (y .1)) (list-minimal S (verdict S .goals)) r m
+
+  -- and for a pruned item, which is its own single goal.
+  pub pruned-minimal : (i : ℕ) (s : Slip) → Explains sheet i s → (r : ℕ) → member r (s .reasons) ≡ true
+      → SomeWalk (S .graph) (S .source) (S .target) (S .limit) (but (λ j. member j (s .reasons)) r) (i ∷ [])
+  unfolding slipFor
+  pruned-minimal i s x r m =
+      let y = explained sheet S i s a x in
+      subst (λ (s : Slip). (r : ℕ) → member r (s .reasons) ≡ true → SomeWalk (S .graph) (S .source) (S .target) (S .limit) (but (λ j. member j (s .reasons)) r) (i ∷ []))
+      (sym (y .3)) (list-minimal S (i ∷ [])) r m

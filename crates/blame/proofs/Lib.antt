@@ -1,0 +1,3 @@
+pub mod AnswerLaws
+pub mod Demand3
+pub mod Star

@@ -1,0 +1,76 @@
+// Goals: where one is entered and left, its own length, and sums up to the cap.
+ghost use mathlib.Core.Path.{_≡_};
+ghost use Prim.Native.Nat.{_+_, _*_, _≤_, _<_};
+ghost use Rattle.walks.specs.Lengths.{Least, plus};
+ghost use Rattle.walks.specs.Graph.{closedIn};
+ghost use Rattle.walks.specs.Goals.{entryOf, exitOf, ownOf};
+ghost use Rattle.walks.specs.Flat.{graphOf};
+ghost use Rattle.rows.specs.Held.{missing, held};
+ghost use Rattle.rows.specs.Net.{netOf, arcCount, Proper, Joins};
+
+// What stands for a length that is missing or above the cap.
+const MISSING: u32 = 0xFFFF_FFFF;
+
+// The mark of a forbidden item.
+const FORBIDDEN: u8 = 2;
+
+// What the three numbers of an arc are.
+const TAIL: usize = 0;
+
+const HEAD: usize = 1;
+
+const WEIGHT: usize = 2;
+
+// The node where a walk comes to goal `g`.
+pub fn entry(nodes: usize, arcs: &[u32], g: usize) -> u32
+    requires { ⌜ Joins nodes (now arcs) × (nodes ≤ 64) × (g < nodes + arcCount (now arcs)) ⌝ }
+    ensures { λ r. ⌜ (r ≡ entryOf (graphOf nodes (now (arcs .entry))) g) × (r < nodes) ⌝ }
+{
+    if g < nodes {
+        return g as u32;
+    }
+    arcs[(g - nodes) * 3 + TAIL]
+}
+
+// The node where a walk leaves goal `g`.
+pub fn exit(nodes: usize, arcs: &[u32], g: usize) -> usize
+    requires { ⌜ Joins nodes (now arcs) × (g < nodes + arcCount (now arcs)) ⌝ }
+    ensures { λ r. ⌜ (r ≡ exitOf (graphOf nodes (now (arcs .entry))) g) × (r < nodes) ⌝ }
+{
+    if g < nodes {
+        return g;
+    }
+    arcs[(g - nodes) * 3 + HEAD] as usize
+}
+
+// The length of goal `g` itself.
+pub fn own(nodes: usize, arcs: &[u32], marks: &[u8], g: usize, cap: u32) -> u32
+    requires { ⌜ Proper (netOf nodes (now arcs) (now marks)) × (g < nodes + arcCount (now arcs)) ⌝ }
+    ensures { λ r. ⌜ r ≡ held cap (ownOf (graphOf nodes (now (arcs .entry))) (closedIn (now (marks .entry))) g) ⌝ }
+{
+    if g < nodes {
+        return 0;
+    }
+    if marks[g] == FORBIDDEN {
+        return MISSING;
+    }
+    let weight = arcs[(g - nodes) * 3 + WEIGHT];
+    if weight > cap {
+        return MISSING;
+    }
+    weight
+}
+
+// The sum of two lengths, MISSING above `cap`.
+pub fn sum(x: u32, y: u32, cap: u32) -> u32
+    requires { ⌜ cap < missing ⌝ }
+    ensures { λ r. ⌜ ((p q : Least) → x ≡ held cap p → y ≡ held cap q → r ≡ held cap (plus p q)) ⌝ }
+{
+    if x > cap {
+        return MISSING;
+    }
+    if y > cap - x {
+        return MISSING;
+    }
+    x + y
+}

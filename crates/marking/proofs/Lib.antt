@@ -1,0 +1,2 @@
+pub mod MarkingLaws
+pub mod SlipLaws

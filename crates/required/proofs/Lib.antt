@@ -1,0 +1,2 @@
+pub mod RequiredLaws
+pub mod HeldLaws

@@ -1,0 +1,36 @@
+-- A sheet as the code has it.
+use Prim.Native.Nat.{ℕ, _+_, _*_, _≤_, _<_}
+use mathlib.Core.Path.{_≡_}
+use mathlib.Core.List.{List}
+use lib.ListN.{length, getD}
+use lib.Dec.{eqb}
+use Rattle.walks.specs.Flat.{graphOf}
+use Rattle.sheet.specs.Sheet.{Sheet, required, endsMandatory, allArcs}
+use Rattle.sheet.specs.Good.{Good}
+use Rattle.rows.specs.Net.{netOf, Proper}
+use Rattle.sections.specs.declared.Header.{Header}
+
+-- the sheet that the five numbers, the arcs' numbers and the marks make
+abbrev pub sheetOf : Header → List ℕ → List ℕ → Sheet
+sheetOf h arcs marks =
+    record { graph = graphOf (h .nodes) arcs; source = h .source; target = h .target; limit = h .limit; marks = marks }
+
+-- as many numbers as the header says
+abbrev pub Held : Header → List ℕ → List ℕ → Type 0
+Held h arcs marks = (length arcs ≡ 3 * h .arcs) × (length marks ≡ h .nodes + h .arcs)
+
+-- the numbers of a taken sheet
+pub record Whole (h : Header) (arcs marks : List ℕ) : Type 0 where
+  pub proper : Proper (netOf (h .nodes) arcs marks)
+  pub held : Held h arcs marks
+  pub few : h .arcs ≤ 512
+  pub source : h .source < h .nodes
+  pub target : h .target < h .nodes
+  pub limit : h .limit ≤ 1000000
+  pub good : Good (sheetOf h arcs marks)
+  pub eight : length (required (sheetOf h arcs marks)) ≤ 8
+
+-- a 1 for each of the first 64 nodes that ends a mandatory arc
+pub record Ends (S : Sheet) (ends : List ℕ) : Type 0 where
+  pub size : length ends ≡ 64
+  pub each : (p : ℕ) → p < 64 → eqb (getD ends p 0) 1 ≡ endsMandatory S p (allArcs (S .graph))

@@ -1,0 +1,112 @@
+-- Laws of the sheet's numbers and arcs, as a reader meets them: each result of one reading decides the next step. Assumes nothing.
+use Prim.Native.Nat.{ℕ, suc, _≤_, _<_}
+use mathlib.Core.Path.{_≡_, refl, ap, sym, _∙_}
+use mathlib.Core.List.{List}
+use mathlib.Core.Bool.{Bool, true, false, not, _&&_}
+use native.Mathlib.Omega.{arith}
+use lib.Dec.{ltb, leb, eqb, leb·suc-suc}
+use borrow.Author.Tests.{lt-ltb, le-ltb, ltb-true, ltb-false, eq-eqb, ne-eqb}
+use Rattle.lists.specs.Lists.{pick}
+use Rattle.varint.specs.Varint.{Read, got, refuse, after, readNumber, number, judged}
+use Rattle.sheet.specs.Reader.{readArc, arcHead, arcMinutes, readMark}
+
+abbrev pub under : ℕ → ℕ → Bool
+under end x = ltb x end
+
+module _ (bs : List ℕ) (why end : ℕ) where
+  pub number-fine : {x : ℕ} {rest : List ℕ} → got x rest ≡ readNumber bs → x < end → got x rest ≡ number why (under end) bs
+  unfolding number after judged
+  number-fine e h = rw (← e) (simp (lt-ltb _ _ h))
+
+  pub number-wrong : {x : ℕ} {rest : List ℕ} → got x rest ≡ readNumber bs → end ≤ x → refuse why ≡ number why (under end) bs
+  unfolding number after judged
+  number-wrong e h = rw (← e) (simp (le-ltb _ _ h))
+
+  pub number-not : {n : ℕ} → refuse n ≡ readNumber bs → refuse n ≡ number why (under end) bs
+  unfolding number after
+  number-not e = rw (← e)
+
+-- a number that passed its test
+fine-below : (why end : ℕ) (r : Read ℕ) {x : ℕ} {rest : List ℕ} → got x rest ≡ after r (judged why (under end)) → x < end
+unfolding after judged
+fine-below why end (got y bs) e = go (ltb y end) refl e
+  where
+    go : {x : ℕ} {rest : List ℕ} (t : Bool) → ltb y end ≡ t → got x rest ≡ pick t (got y bs) (refuse why) → x < end
+    go {x} true p q = let z : x ≡ y = cc in omega (arith, ltb-true y end p)
+    go false p q = absurd (let z : _≡_ {A = ℕ} 0 1 = cc in omega arith)
+fine-below why end (refuse n) e = absurd (let z : _≡_ {A = ℕ} 0 1 = cc in omega arith)
+
+pub number-below : (why end : ℕ) (bs : List ℕ) {x : ℕ} {rest : List ℕ} → got x rest ≡ number why (under end) bs → x < end
+unfolding number
+number-below why end bs e = fine-below why end (readNumber bs) e
+
+-- what a wider test refuses, a narrower one refuses too
+past-after : (why j k : ℕ) → j ≤ k → (r : Read ℕ) {e : ℕ} → refuse e ≡ after r (judged why (under k)) → refuse e ≡ after r (judged why (under j))
+unfolding after judged
+past-after why j k h (got y bs) p = go (ltb y k) refl p
+  where
+    go : {e : ℕ} (t : Bool) → ltb y k ≡ t → refuse e ≡ pick t (got y bs) (refuse why) → refuse e ≡ pick (ltb y j) (got y bs) (refuse why)
+    go true q z = absurd (let w : _≡_ {A = ℕ} 0 1 = cc in omega arith)
+    go false q z = rw (le-ltb y j (omega (arith, ltb-false y k q))) z
+past-after why j k h (refuse n) p = p
+
+pub number-past : (why j k : ℕ) → j ≤ k → (bs : List ℕ) {e : ℕ} → refuse e ≡ number why (under k) bs → refuse e ≡ number why (under j) bs
+unfolding number
+number-past why j k h bs p = past-after why j k h (readNumber bs) p
+
+-- two tests in turn are one
+after-and :
+    (e : ℕ) (p q : ℕ → Bool) (r : Read ℕ) → after r (judged e (λ x. p x && q x)) ≡ after (after r (judged e p)) (judged e q)
+unfolding after judged
+after-and e p q (got x bs) = go (p x)
+  where
+    go : (t : Bool) → pick (t && q x) (got x bs) (refuse e) ≡ after (pick t (got x bs) (refuse e)) (judged e q)
+    go true = refl
+    go false = refl
+after-and e p q (refuse n) = refl
+
+pub number-and : (e : ℕ) (p q : ℕ → Bool) (bs : List ℕ) → number e (λ x. p x && q x) bs ≡ after (number e p bs) (judged e q)
+unfolding number
+number-and e p q bs = after-and e p q (readNumber bs)
+
+-- at most k is below k + 1
+pub number-most : (e k : ℕ) (bs : List ℕ) → number e (λ x. leb x k) bs ≡ number e (under (suc k)) bs
+number-most e k bs = ap (λ (f : ℕ → Bool). number e f bs) (λ i x. sym (leb·suc-suc x k) i)
+
+pub mark-number : (bs : List ℕ) → readMark bs ≡ number 11 (under 3) bs
+unfolding readMark
+mark-number bs = number-most 11 2 bs
+
+module _ (n : ℕ) (bs : List ℕ) where
+  pub tail-not : {e : ℕ} → refuse e ≡ number 9 (under n) bs → refuse e ≡ readArc n bs
+  unfolding readArc after
+  tail-not e = rw (← e)
+
+  module _ {t : ℕ} {r₁ : List ℕ} (et : got t r₁ ≡ number 9 (under n) bs) where
+    from-tail : readArc n bs ≡ arcHead n t r₁
+    unfolding readArc after
+    from-tail = rw (← et)
+
+    pub head-not : {e : ℕ} → refuse e ≡ number 9 (under n) r₁ → refuse e ≡ readArc n bs
+    unfolding arcHead after
+    head-not e = sym (from-tail ∙ rw (number-and 9 (under n) (λ x. not (eqb x t)) r₁, ← e))
+
+    module _ {h : ℕ} {r₂ : List ℕ} (eh : got h r₂ ≡ number 9 (under n) r₁) where
+      pub head-tail : h ≡ t → refuse 9 ≡ readArc n bs
+      unfolding arcHead after judged
+      head-tail q = sym (from-tail ∙ rw (number-and 9 (under n) (λ x. not (eqb x t)) r₁, ← eh, eq-eqb _ _ q))
+
+      module _ (q : h ≡ t → ⊥) where
+        from-head : readArc n bs ≡ arcMinutes t h r₂
+        unfolding arcHead after judged
+        from-head = from-tail ∙ rw (number-and 9 (under n) (λ x. not (eqb x t)) r₁, ← eh, ne-eqb _ _ q)
+
+        pub minutes-not : {e : ℕ} → refuse e ≡ number 10 (under 65536) r₂ → refuse e ≡ readArc n bs
+        unfolding arcMinutes after
+        minutes-not e = sym (from-head ∙ rw (number-most 10 65535 r₂, ← e))
+
+        pub arc-found :
+            {w : ℕ} {r₃ : List ℕ} → got w r₃ ≡ number 10 (under 65536) r₂
+            → got (record { tail = t; head = h; weight = w }) r₃ ≡ readArc n bs
+        unfolding arcMinutes after
+        arc-found e = sym (from-head ∙ rw (number-most 10 65535 r₂, ← e))
