@@ -1,6 +1,7 @@
 -- `judge_slip` judges the first number and then the lists. Assumes nothing.
 use borrow.Author.Needs.{needs}
 use mathlib.Core.Path.{ap, sym, _∙_}
+use native.Mathlib.Omega.{arith}
 use Rattle.varint.specs.Answer.{readOf}
 use Rattle.form.proofs.FormLaws.{first-not, first-low, first-high, first-read}
 use Rattle.form.proofs.judge_slip.Statement.{statement}
@@ -16,7 +17,7 @@ returns : tie.Need-returns
 returns c = (first-low _ (ap (readOf _) (sym (c .before .before .first .given .1)) ∙ c .before .before .before .before .number-at .ensures .0) (c .if1 .taken), tt)
 
 returns-2 : tie.Need-returns-2
-returns-2 c = (first-high _ (ap (readOf _) (sym (c .before .before .before .first .given .1)) ∙ c .before .before .before .before .before .number-at .ensures .0) (c .before .if1 .left) (c .if2 .taken), tt)
+returns-2 c = (first-high _ (ap (readOf _) (sym (c .before .before .before .first .given .1)) ∙ c .before .before .before .before .before .number-at .ensures .0) (c .before .if1 .left) (omega (arith, c .if2 .taken)), tt)
 
 judge-lists-requires : tie.Need-judge-lists-requires
 judge-lists-requires c κs = search needs
