@@ -2,9 +2,7 @@
 ghost use Prim.Native.Nat.{_+_, _*_, _≤_, _<_};
 ghost use lib.ListN.{length, take};
 ghost use Rattle.rows.specs.Net.{netOf, arcCount, Proper, PackedTo, Packed};
-
-// The mark of a forbidden item.
-const FORBIDDEN: u8 = 2;
+use rows::FORBIDDEN;
 
 // Puts arc `i` behind the `c` arcs that are packed, where it and its head are open.
 fn pack_arc(

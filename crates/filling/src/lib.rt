@@ -6,16 +6,12 @@ ghost use Rattle.rows.specs.Held.{missing};
 ghost use Rattle.rows.specs.Net.{Net, netOf, arcCount, Proper, Joins};
 ghost use Rattle.rows.specs.Rows.{RowIs, RowTo, StartOf, StartsOf, StartsFit, RowsAre};
 ghost use Rattle.spread.specs.Arcs.{Chained, TurnedTo};
+use rows::MISSING;
+use rows::ROW_LENGTH;
 use spread::Mend;
-
-// What a row holds where there is no way of at most the cap.
-const MISSING: u32 = 0xFFFF_FFFF;
 
 // The most numbers that the arcs take, three each.
 const ARC_NUMBERS: usize = 1536;
-
-// The numbers of a row, one for each node.
-const ROW_LENGTH: usize = 64;
 
 // Stores `v` in each entry.
 fn fill(row: &mut [u32], v: u32)

@@ -6,10 +6,8 @@ ghost use lib.ListN.{length};
 ghost use Rattle.verdict.specs.Verdict.{fitsSheet};
 ghost use Rattle.required.specs.Held.{sheetOf, Whole};
 ghost use Rattle.fits.specs.Rows.{Rows};
+use rows::ROW_LENGTH;
 use sections::Header;
-
-// The numbers of a row, one for each node.
-const ROW_LENGTH: usize = 64;
 
 // Fills the row from the source and behind it the row to the target.
 pub fn fill_rows(header: Header, arcs: &[u32], marks: &[u8], rows: &mut [u32])

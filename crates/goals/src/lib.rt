@@ -7,12 +7,8 @@ ghost use Rattle.walks.specs.Goals.{entryOf, exitOf, ownOf};
 ghost use Rattle.walks.specs.Flat.{graphOf};
 ghost use Rattle.rows.specs.Held.{missing, held};
 ghost use Rattle.rows.specs.Net.{netOf, arcCount, Proper, Joins};
-
-// What stands for a length that is missing or above the cap.
-const MISSING: u32 = 0xFFFF_FFFF;
-
-// The mark of a forbidden item.
-const FORBIDDEN: u8 = 2;
+use rows::FORBIDDEN;
+use rows::MISSING;
 
 // What the three numbers of an arc are.
 const TAIL: usize = 0;

@@ -4,11 +4,10 @@ ghost use mathlib.Core.Bool.{true, false};
 ghost use Prim.Native.Nat.{ℕ, _+_, _*_, _≤_, _<_};
 ghost use lib.ListN.{length, getD};
 ghost use Rattle.kept.specs.Unmoved.{Unmoved, UnmovedRow};
+use rows::ROW_LENGTH;
 
 // Where things lie in the work: the rows of 64 numbers each from 0 on, the node where each goal is entered, and the rows as they were before an
 // item was opened.
-const ROW_LENGTH: usize = 64;
-
 const ENTRIES: usize = 576;
 
 const SAVED: usize = 3072;

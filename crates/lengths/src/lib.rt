@@ -8,17 +8,14 @@ ghost use Rattle.walks.specs.Flat.{graphOf};
 ghost use Rattle.rows.specs.Held.{missing, code, atMost, held};
 ghost use Rattle.rows.specs.Net.{Net, netOf, graph, closed, arcCount, Proper, Joins};
 ghost use Rattle.table.specs.Table.{GoalsFit, StartsAre, Rowed, Noted, Filled, TableFits, TableOnly};
+use table::ENTRIES;
+use table::OWN_LENGTHS;
 
 // The most numbers that the arcs take, three each.
 const ARC_NUMBERS: usize = 1536;
 
 // The most rows: from the source and from where each goal is left.
 const ROWS: usize = 9;
-
-// Where in the work lie the node where each goal is entered and its own length.
-const ENTRIES: usize = 576;
-
-const OWN_LENGTHS: usize = 584;
 
 // What a least length is asked for: a walk from `from` to `to` in a graph of `nodes` nodes, of length at most `cap`.
 pub struct Query {

@@ -8,7 +8,7 @@ ghost use Rattle.lent.specs.Bytes.{workBytes, zeroedBytes, leftBytes};
 const WORK_NUMBERS: usize = 16384;
 
 // Four bytes for each number.
-const WORK_BYTES: usize = 65536;
+pub const WORK_BYTES: usize = 65536;
 
 // The last refusal that leaves the work as found.
 const LAST_UNTOUCHED: u32 = 13;

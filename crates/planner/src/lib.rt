@@ -7,8 +7,7 @@ ghost use mathlib.Core.Path.{_≡_};
 ghost use Prim.Native.Nat.{_+_, _*_, _≤_};
 ghost use Rattle.planner.specs.Layer.{passedBytes, reasonedBytes};
 ghost use Rattle.planner.specs.Check.{yesNumber, checkedBytes};
-
-const WORK_BYTES: usize = 65536;
+use lent::WORK_BYTES;
 
 // What a refusal number counts in the one number of a call.
 const REFUSAL: u32 = 65536;

@@ -10,13 +10,9 @@ ghost use Rattle.rows.specs.Net.{Net, netOf, arcCount, Proper, Joins, Packed};
 ghost use Rattle.rows.specs.Rows.{Tried, RowIs, RowsAre, RowsSound, StartsOf, StartsFit};
 ghost use Rattle.spread.specs.Arcs.{Chained};
 ghost use Rattle.reopen.specs.Openings.{Untouched, LinkOf, ArcOpened, Opened, Beside, Reopened, ItemOpened};
+use rows::FORBIDDEN;
+use rows::ROW_LENGTH;
 use spread::Mend;
-
-// The mark of a forbidden item.
-const FORBIDDEN: u8 = 2;
-
-// The numbers of a row, one for each node.
-const ROW_LENGTH: usize = 64;
 
 // An arc's ends and weight.
 pub struct Link {

@@ -6,7 +6,13 @@ ghost use Rattle.rows.specs.Net.{arcCount, Joins};
 ghost use Rattle.rows.specs.Rows.{Relaxed, ArcTried, Swept, Round, Settled, Keeps, Started};
 
 // The mark of a forbidden item.
-const FORBIDDEN: u8 = 2;
+pub const FORBIDDEN: u8 = 2;
+
+// What stands for a length that is missing or above the cap.
+pub const MISSING: u32 = 0xFFFF_FFFF;
+
+// The numbers of a row, one for each node.
+pub const ROW_LENGTH: usize = 64;
 
 // Cuts the entry at `to` where the way over `from` is shorter and at most `cap`.
 pub fn relax(row: &mut [u32], from: usize, to: usize, weight: u32, cap: u32) -> bool

@@ -6,12 +6,8 @@ ghost use Rattle.rows.specs.Held.{missing};
 ghost use Rattle.rows.specs.Net.{Net, arcCount, Joins};
 ghost use Rattle.rows.specs.Rows.{RowIs, Sound, Keeps, StartOf};
 ghost use Rattle.spread.specs.Arcs.{Chained};
-
-// What a row holds where there is no way of at most the cap.
-const MISSING: u32 = 0xFFFF_FFFF;
-
-// The numbers of a row, one for each node.
-const ROW_LENGTH: usize = 64;
+use rows::MISSING;
+use rows::ROW_LENGTH;
 
 // The numbers of the arcs chained by their tails, one for each node and one for each arc.
 const CHAIN_NUMBERS: usize = 576;

@@ -9,22 +9,19 @@ ghost use Rattle.rows.specs.Held.{missing, held};
 ghost use Rattle.rows.specs.Net.{Net, graph, closed};
 ghost use Rattle.table.specs.Sets.{has as hasOf, chosen, past as pastOf};
 ghost use Rattle.table.specs.Table.{Filled, FilledTo, Asked, TableFits, TableOnly};
-
-// What stands for a length that is missing or above the cap.
-const MISSING: u32 = 0xFFFF_FFFF;
+use rows::MISSING;
+use rows::ROW_LENGTH;
 
 // The most goals.
 const GOALS: usize = 8;
 
 // Where things lie in the work: the rows of 64 numbers each from 0 on, the row of the first goal from GOAL_ROWS on, the node where each goal is
 // entered, each goal's own length, and the table, an entry for each set of goals and goal just reached.
-const ROW_LENGTH: usize = 64;
-
 const GOAL_ROWS: usize = 64;
 
-const ENTRIES: usize = 576;
+pub const ENTRIES: usize = 576;
 
-const OWN_LENGTHS: usize = 584;
+pub const OWN_LENGTHS: usize = 584;
 
 const TABLE: usize = 1024;
 

@@ -12,12 +12,8 @@ ghost use Rattle.table.specs.Table.{GoalsFit, Rowed, Noted};
 ghost use Rattle.turns.specs.Turns.{Setting, fitsAt, Ready, Judged, State, Turned};
 use lengths::Query;
 use reopen::Opening;
-
-// The mark of a forbidden item.
-const FORBIDDEN: u8 = 2;
-
-// The numbers of a row.
-const ROW_LENGTH: usize = 64;
+use rows::FORBIDDEN;
+use rows::ROW_LENGTH;
 
 // Whether the item is one of the goals.
 fn is_goal(goals: &[usize], item: usize) -> bool

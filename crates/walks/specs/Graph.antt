@@ -59,14 +59,14 @@ unfoldable pub touched : Graph → ℕ → List ℕ → List ℕ
 touched G a [] = a ∷ []
 touched G a (l ∷ w) = a ∷ touched G (headOf G l) w
 
+-- it is clear of what is closed
+unfoldable pub clear : Graph → (ℕ → Bool) → ℕ → List ℕ → Bool
+clear G closed a w = every (λ i. not (closed i)) (items G a w)
+
 -- its length
 unfoldable pub len : Graph → List ℕ → ℕ
 len G [] = 0
 len G (l ∷ w) = weightOf G l + len G w
-
--- it is clear of what is closed
-unfoldable pub clear : Graph → (ℕ → Bool) → ℕ → List ℕ → Bool
-clear G closed a w = every (λ i. not (closed i)) (items G a w)
 
 -- it meets all goals, which are items
 unfoldable pub meets : Graph → List ℕ → ℕ → List ℕ → Bool

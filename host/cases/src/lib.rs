@@ -1,11 +1,13 @@
-//! Sheets to try: a small generator of random numbers, a writer of sheets and slips, and makers of sheets of every kind. Nothing here reads or judges a sheet.
+//! Sheets to try: a small generator of random numbers, a writer of sheets and slips, makers of sheets of every kind, and the lines of document 01. Nothing here reads or judges a sheet.
 
 mod altered;
 mod draw;
 mod random;
+mod table;
 mod written;
 
 pub use altered::{alterations, Slip};
 pub use draw::{damaged, draw, Kind, KINDS};
 pub use random::Random;
+pub use table::{formats, starred, with_required, Line};
 pub use written::{number, numbers, sheet_b, Sheet, FORBIDDEN, MANDATORY, OPEN};

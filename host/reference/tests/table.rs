@@ -1,6 +1,6 @@
 //! The reference on the lines of document 01, 'The sheet B and what it gives'.
 
-use cases::{sheet_b, Sheet, FORBIDDEN, MANDATORY};
+use cases::{formats, sheet_b, starred, Line, Sheet, FORBIDDEN};
 use reference::{check, pass, program, reason, SLIP_BYTES, WORK_BYTES};
 
 const REFUSED: u32 = 65_536;
@@ -25,39 +25,20 @@ fn refusal(bytes: &[u8], slip: usize) -> u32 {
 
 #[test]
 fn the_table_of_b() {
-    let b = sheet_b();
-    let both = b.with_mark(1, MANDATORY).with_mark(2, MANDATORY);
-    let item_closed = b.with_limit(12).with_mark(4, FORBIDDEN);
-    assert_eq!(pass_slip(&b), [0, 1, 0, 2, 1, 0, 0, 2, 2, 2]);
-    assert_eq!(reason_slip(&b, 2), [4, 1, 2, 0]);
-    assert_eq!(pass_slip(&b.with_limit(7)), [1, 0, 0]);
-    assert_eq!(pass_slip(&b.with_mark(2, MANDATORY)), [2, 1, 2, 0]);
-    assert_eq!(pass_slip(&item_closed), [0, 1, 2, 0, 1, 2, 2, 0, 0, 2]);
-    assert_eq!(reason_slip(&item_closed, 1), [4, 1, 1, 1, 4]);
-    assert_eq!(pass_slip(&both.with_limit(13)), [3, 2, 1, 2, 0]);
-    assert_eq!(pass_slip(&both.with_limit(14)), [0, 1, 1, 1, 1, 0, 0, 0, 0, 0]);
-    assert_eq!(pass_slip(&both.with_limit(14).with_mark(8, FORBIDDEN)), [3, 2, 1, 2, 1, 8]);
-    assert_eq!(pass_slip(&b.with_mark(1, FORBIDDEN)), [1, 0, 1, 1]);
-    assert_eq!(pass_slip(&b.with_mark(1, FORBIDDEN).with_mark(5, FORBIDDEN)), [1, 0, 1, 5]);
-    assert_eq!(pass_slip(&b.with_limit(13).with_mark(8, MANDATORY)), [2, 1, 8, 0]);
+    for Line { sheet, item, slip } in starred() {
+        let written = match item {
+            None => pass_slip(&sheet),
+            Some(item) => reason_slip(&sheet, item),
+        };
+        assert_eq!(written, slip, "{sheet:?} {item:?}");
+    }
 }
 
 #[test]
 fn what_formats_decide() {
-    let b = sheet_b();
-    let bytes = b.bytes();
-    assert_eq!(refusal(&[], SLIP_BYTES), 3);
-    assert_eq!(refusal(&[&bytes[..], &[0]].concat(), SLIP_BYTES), 12);
-    assert_eq!(refusal(&[&[0x80, 0], &bytes[1..]].concat(), SLIP_BYTES), 4);
-    assert_eq!(refusal(&b.with_limit(1_000_000).bytes(), SLIP_BYTES), 0);
-    assert_eq!(refusal(&b.with_limit(1_000_001).bytes(), SLIP_BYTES), 8);
-    let minutes = |w| Sheet { arcs: vec![[0, 1, w]], marks: vec![0; 5], ..b.clone() };
-    assert_eq!(refusal(&minutes(65_535).bytes(), SLIP_BYTES), 0);
-    assert_eq!(refusal(&minutes(65_536).bytes(), SLIP_BYTES), 10);
-    assert_eq!(refusal(&bytes, SLIP_BYTES - 1), 2);
-    let required = |count| Sheet { marks: (0..11).map(|p| u32::from((1..=count).contains(&p))).collect(), ..Sheet::new(11, 0, 10, 8, &[]) };
-    assert_eq!(refusal(&required(8).bytes(), SLIP_BYTES), 0);
-    assert_eq!(refusal(&required(9).bytes(), SLIP_BYTES), 13);
+    for (bytes, slip, refused) in formats() {
+        assert_eq!(refusal(&bytes, slip), refused, "{bytes:?}");
+    }
 }
 
 #[test]
