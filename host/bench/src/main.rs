@@ -1,11 +1,17 @@
 //! Times each operation of the library on standard sheets, beside the reference: the same lent memory, turn by turn in one run, the median of many samples.
 //!
 //!     cargo run --release -p bench
+//!
+//! With `WAYS_BEFORE` set to the path of an earlier `libplanner.a`, that one takes its turns too, and the last column is the present library's time in terms of
+//! the earlier one's.
 
+mod before;
 mod sheets;
 
+use before::Before;
 use sheets::{standard, Operation, Standard};
 use std::hint::black_box;
+use std::path::Path;
 use std::time::{Duration, Instant};
 
 const WARM_UP: Duration = Duration::from_millis(100);
@@ -19,38 +25,44 @@ struct Lent {
     slip: Vec<u8>,
 }
 
-fn library(standard: &Standard, lent: &mut Lent) -> u32 {
-    match &standard.operation {
-        Operation::Pass => ways::numbers::pass(&standard.sheet, &mut lent.work, &mut lent.slip),
-        Operation::Reason(item) => ways::numbers::reason(&standard.sheet, &mut lent.work, &mut lent.slip, *item),
-        Operation::Check(slip) => ways::numbers::check(&standard.sheet, &mut lent.work, slip),
+/// Who is timed.
+enum Timed {
+    Library,
+    Reference,
+    Before(Before),
+}
+
+impl Timed {
+    fn run(&self, standard: &Standard, lent: &mut Lent) -> u32 {
+        let (sheet, work, slip) = (&standard.sheet, &mut lent.work, &mut lent.slip);
+        match (self, &standard.operation) {
+            (Timed::Library, Operation::Pass) => ways::numbers::pass(sheet, work, slip),
+            (Timed::Library, Operation::Reason(item)) => ways::numbers::reason(sheet, work, slip, *item),
+            (Timed::Library, Operation::Check(slip)) => ways::numbers::check(sheet, work, slip),
+            (Timed::Reference, Operation::Pass) => reference::pass(sheet, work, slip),
+            (Timed::Reference, Operation::Reason(item)) => reference::reason(sheet, work, slip, *item),
+            (Timed::Reference, Operation::Check(slip)) => reference::check(sheet, work, slip),
+            (Timed::Before(before), Operation::Pass) => before.pass(sheet, work, slip),
+            (Timed::Before(before), Operation::Reason(item)) => before.reason(sheet, work, slip, *item),
+            (Timed::Before(before), Operation::Check(slip)) => before.check(sheet, work, slip),
+        }
     }
 }
 
-fn reference(standard: &Standard, lent: &mut Lent) -> u32 {
-    match &standard.operation {
-        Operation::Pass => reference::pass(&standard.sheet, &mut lent.work, &mut lent.slip),
-        Operation::Reason(item) => reference::reason(&standard.sheet, &mut lent.work, &mut lent.slip, *item),
-        Operation::Check(slip) => reference::check(&standard.sheet, &mut lent.work, slip),
-    }
-}
-
-type Run = fn(&Standard, &mut Lent) -> u32;
-
-fn sample(run: Run, standard: &Standard, lent: &mut Lent, calls: u32) -> f64 {
+fn sample(timed: &Timed, standard: &Standard, lent: &mut Lent, calls: u32) -> f64 {
     let start = Instant::now();
     for _ in 0..calls {
-        black_box(run(black_box(standard), lent));
+        black_box(timed.run(black_box(standard), lent));
     }
     start.elapsed().as_secs_f64() * 1e6 / f64::from(calls)
 }
 
 /// Warms up, and says how many calls a sample is to have.
-fn warm_up(run: Run, standard: &Standard, lent: &mut Lent) -> u32 {
+fn warm_up(timed: &Timed, standard: &Standard, lent: &mut Lent) -> u32 {
     let start = Instant::now();
     let mut calls = 0;
     while start.elapsed() < WARM_UP {
-        black_box(run(standard, lent));
+        black_box(timed.run(standard, lent));
         calls += 1;
     }
     (calls * SAMPLE.as_micros() as u32 / WARM_UP.as_micros() as u32).max(1)
@@ -61,36 +73,48 @@ fn median(mut samples: Vec<f64>) -> f64 {
     samples[samples.len() / 2]
 }
 
-/// Both give the same number and the same slip; a time for anything else would be worth nothing.
-fn compare(standard: &Standard, lent: &mut Lent) {
-    lent.slip.fill(0);
-    let number = library(standard, lent);
-    let slip = lent.slip.clone();
-    lent.slip.fill(0);
-    assert_eq!(number, reference(standard, lent), "{}", standard.name);
-    assert_eq!(slip, lent.slip, "{}", standard.name);
-    assert!(number < 65_536, "{} is refused with {}", standard.name, number / 65_536);
+/// All give the same number and the same slip; a time for anything else would be worth nothing.
+fn compare(all: &[Timed], standard: &Standard, lent: &mut Lent) {
+    let answers: Vec<(u32, Vec<u8>)> = all
+        .iter()
+        .map(|timed| {
+            lent.slip.fill(0);
+            (timed.run(standard, lent), lent.slip.clone())
+        })
+        .collect();
+    assert!(answers.iter().all(|answer| *answer == answers[0]), "{}", standard.name);
+    assert!(answers[0].0 < 65_536, "{} is refused with {}", standard.name, answers[0].0 / 65_536);
 }
 
-/// The medians of library and reference, in microseconds.
-fn time(standard: &Standard, lent: &mut Lent) -> (f64, f64) {
-    compare(standard, lent);
-    let library_calls = warm_up(library, standard, lent);
-    let reference_calls = warm_up(reference, standard, lent);
-    let (mut of_library, mut of_reference) = (vec![], vec![]);
+/// The medians, in microseconds.
+fn time(all: &[Timed], standard: &Standard, lent: &mut Lent) -> Vec<f64> {
+    compare(all, standard, lent);
+    let calls: Vec<u32> = all.iter().map(|timed| warm_up(timed, standard, lent)).collect();
+    let mut samples = vec![vec![]; all.len()];
     for _ in 0..SAMPLES {
-        of_library.push(sample(library, standard, lent, library_calls));
-        of_reference.push(sample(reference, standard, lent, reference_calls));
+        for (at, timed) in all.iter().enumerate() {
+            samples[at].push(sample(timed, standard, lent, calls[at]));
+        }
     }
-    (median(of_library), median(of_reference))
+    samples.into_iter().map(median).collect()
 }
 
 fn main() {
     let mut lent = Lent { work: vec![0; ways::WORK_BYTES], slip: vec![0; ways::SLIP_BYTES] };
-    println!("| operation | sheet | library, µs | reference, µs | ratio |");
-    println!("|---|---|---:|---:|---:|");
+    let mut all = vec![Timed::Library, Timed::Reference];
+    let before = std::env::var_os("WAYS_BEFORE");
+    if let Some(archive) = &before {
+        all.push(Timed::Before(Before::load(Path::new(archive))));
+    }
+    let (head, rule) = if before.is_some() { (" before, µs | ratio |", "---:|---:|") } else { ("", "") };
+    println!("| operation | sheet | library, µs | reference, µs | ratio |{head}");
+    println!("|---|---|---:|---:|---:|{rule}");
     for standard in standard() {
-        let (library, reference) = time(&standard, &mut lent);
-        println!("| {} | {} | {library:.1} | {reference:.1} | {:.2} |", standard.operation.name(), standard.name, library / reference);
+        let times = time(&all, &standard, &mut lent);
+        print!("| {} | {} | {:.1} | {:.1} | {:.2} |", standard.operation.name(), standard.name, times[0], times[1], times[0] / times[1]);
+        if let Some(before) = times.get(2) {
+            print!(" {before:.1} | {:.2} |", times[0] / before);
+        }
+        println!();
     }
 }

@@ -46,9 +46,32 @@ fn demanding(sheet: &Sheet) -> Sheet {
     (0..8).fold(sheet.clone(), |sheet, i| sheet.with_mark(3 + 7 * i, MANDATORY))
 }
 
-/// Every second arc behind the ring forbidden: 224 closures.
-fn half_closed(sheet: &Sheet) -> Sheet {
-    (NODES + NODES..NODES + ARCS).step_by(2).fold(sheet.clone(), |sheet, item| sheet.with_mark(item, FORBIDDEN))
+/// Every second arc behind the ring forbidden, `count` of them.
+fn half_closed(sheet: &Sheet, count: usize) -> Sheet {
+    (NODES + NODES..NODES + ARCS).step_by(2).take(count).fold(sheet.clone(), |sheet, item| sheet.with_mark(item, FORBIDDEN))
+}
+
+/// The 60 arcs behind the ring that take the fewest minutes forbidden.
+fn quickest_closed(sheet: &Sheet) -> Sheet {
+    let mut arcs: Vec<usize> = (NODES..ARCS).collect();
+    arcs.sort_by_key(|&arc| sheet.arcs[arc][2]);
+    arcs.iter().take(60).fold(sheet.clone(), |sheet, &arc| sheet.with_mark(NODES + arc, FORBIDDEN))
+}
+
+/// A chain of 64 nodes from source to target, a minute from each to the next, and 449 short cuts that take three times as long as the chain, all open.
+/// The nodes are numbered along the chain or, if `against`, from its end.
+fn chain(seed: u64, against: bool) -> Sheet {
+    let mut random = Random::new(seed);
+    let number = |place: usize| (if against { NODES - 1 - place } else { place }) as u32;
+    let arcs: Vec<[u32; 3]> = (0..ARCS)
+        .map(|arc| {
+            let tail = if arc < NODES - 1 { arc } else { random.below(NODES - 1) };
+            let step = if arc < NODES - 1 { 1 } else { random.between(1, NODES - 1 - tail) };
+            let minutes = if arc < NODES - 1 { 1 } else { 3 * step };
+            [number(tail), number(tail + step), minutes as u32]
+        })
+        .collect();
+    Sheet::new(NODES as u32, number(0), number(NODES - 1), 3 * NODES as u32, &arcs)
 }
 
 fn all_closed(sheet: &Sheet) -> Sheet {
@@ -106,13 +129,18 @@ pub fn standard() -> Vec<Standard> {
     let free = plain.with_limit(least_length(&plain) * 2);
     let eight = demanding(&plain);
     let eight_fit = eight.with_limit(least_length(&eight));
-    let closed = half_closed(&eight);
+    let closed = half_closed(&eight, 224);
     let (open_length, closed_length) = (least_length(&eight), least_length(&closed));
     let blamed = closed.with_limit((open_length + closed_length) / 2);
     let too_long = closed.with_limit(open_length - 1);
     let all = all_closed(&plain).with_limit(least_length(&plain));
-    let partly = half_closed(&plain);
+    let few = quickest_closed(&eight);
+    let few_blamed = few.with_limit((open_length + least_length(&few)) / 2);
+    let few_too_long = few.with_limit(open_length - 1);
+    let partly = half_closed(&plain, 224);
     let partly = partly.with_limit(least_length(&partly) * 3 / 2);
+    let tight = half_closed(&plain, 200);
+    let tight = tight.with_limit(least_length(&tight));
     let b = sheet_b();
     vec![
         pass("B", &b, 0),
@@ -120,9 +148,14 @@ pub fn standard() -> Vec<Standard> {
         pass("64 nodes, 512 arcs, eight required", &eight_fit, 0),
         pass("64 nodes, 512 arcs, eight required", &blamed, 3),
         pass("the same, too long with all open", &too_long, 3),
+        pass("64 nodes, 512 arcs, eight required", &few_blamed, 3),
+        pass("the same, too long with all open", &few_too_long, 3),
         pass("64 nodes, 512 arcs", &all, 1),
+        pass("a chain of 64 nodes, 512 arcs, numbered along it", &chain(2, false), 0),
+        pass("the same, numbered against it", &chain(2, true), 0),
         reason("B", &b),
         reason("64 nodes, 512 arcs", &partly),
+        reason("64 nodes, 512 arcs, no walk to spare", &tight),
         check("B within 7: verdict 1, no reasons", &b.with_limit(7), vec![1, 0, 0]),
         check("the slip of verdict 1 above", &all, pass_slip(&all)),
         check("the slip of the first verdict 3 above", &blamed, pass_slip(&blamed)),

@@ -1,0 +1,68 @@
+//! An earlier archive of the library, to be timed beside the present one: made a shared object by `cc` and loaded, so that the names of both can be the same.
+
+use std::ffi::{c_char, c_int, c_void, CString};
+use std::path::Path;
+use std::process::Command;
+
+extern "C" {
+    fn dlopen(file: *const c_char, mode: c_int) -> *mut c_void;
+    fn dlsym(object: *mut c_void, name: *const c_char) -> *mut c_void;
+}
+
+/// dlopen's mode that finds every name at once and keeps them to this object.
+const NOW: c_int = 2;
+
+type Call = unsafe extern "C" fn(*const u8, usize, *mut u8, usize, *mut u8, usize) -> u32;
+type CallItem = unsafe extern "C" fn(*const u8, usize, *mut u8, usize, *mut u8, usize, u32) -> u32;
+type CallSlip = unsafe extern "C" fn(*const u8, usize, *mut u8, usize, *const u8, usize) -> u32;
+
+/// The three functions of the earlier library.
+#[derive(Clone, Copy)]
+pub struct Before {
+    pass: Call,
+    reason: CallItem,
+    check: CallSlip,
+}
+
+impl Before {
+    pub fn load(archive: &Path) -> Before {
+        let object = std::env::temp_dir().join(format!("ways-before-{}.so", std::process::id()));
+        let made = Command::new("cc")
+            .args(["-shared", "-Wl,-Bsymbolic", "-o"])
+            .arg(&object)
+            .args(["-Wl,--whole-archive"])
+            .arg(archive)
+            .args(["-Wl,--no-whole-archive"])
+            .status();
+        assert!(made.expect("cc").success(), "no shared object of {}", archive.display());
+        let name = CString::new(object.to_str().expect("a path in UTF-8")).expect("no zero byte");
+        let loaded = unsafe { dlopen(name.as_ptr(), NOW) };
+        assert!(!loaded.is_null(), "{} cannot be loaded", object.display());
+        std::fs::remove_file(&object).expect("the shared object can be removed");
+        let find = |name: &str| {
+            let name = CString::new(name).expect("no zero byte");
+            let found = unsafe { dlsym(loaded, name.as_ptr()) };
+            assert!(!found.is_null(), "{name:?} is not in {}", archive.display());
+            found
+        };
+        unsafe {
+            Before {
+                pass: std::mem::transmute::<*mut c_void, Call>(find("ways_pass")),
+                reason: std::mem::transmute::<*mut c_void, CallItem>(find("ways_reason")),
+                check: std::mem::transmute::<*mut c_void, CallSlip>(find("ways_check")),
+            }
+        }
+    }
+
+    pub fn pass(&self, sheet: &[u8], work: &mut [u8], slip: &mut [u8]) -> u32 {
+        unsafe { (self.pass)(sheet.as_ptr(), sheet.len(), work.as_mut_ptr(), work.len(), slip.as_mut_ptr(), slip.len()) }
+    }
+
+    pub fn reason(&self, sheet: &[u8], work: &mut [u8], slip: &mut [u8], item: u32) -> u32 {
+        unsafe { (self.reason)(sheet.as_ptr(), sheet.len(), work.as_mut_ptr(), work.len(), slip.as_mut_ptr(), slip.len(), item) }
+    }
+
+    pub fn check(&self, sheet: &[u8], work: &mut [u8], slip: &[u8]) -> u32 {
+        unsafe { (self.check)(sheet.as_ptr(), sheet.len(), work.as_mut_ptr(), work.len(), slip.as_ptr(), slip.len()) }
+    }
+}
