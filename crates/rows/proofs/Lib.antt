@@ -1,3 +1,4 @@
+pub mod BitLaws
 pub mod HeldLaws
 pub mod ArcLaws
 pub mod OpenLaws

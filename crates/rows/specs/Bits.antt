@@ -1,0 +1,6 @@
+-- Sets of small numbers as one number, a bit each.
+use Prim.Native.Nat.{ℕ, _/_, _%_, _^_}
+
+-- bit u of a set: 1 where it has u
+abbrev pub bitOf : ℕ → ℕ → ℕ
+bitOf set u = set / 2 ^ u % 2
