@@ -34,7 +34,7 @@ fn pack_arc(
 // Writes the open arcs with an open head to the front of `packed` and gives how many numbers they take.
 pub fn pack(nodes: usize, arcs: &[u32], marks: &[u8], packed: &mut [u32]) -> usize
     requires { ⌜ Proper (netOf nodes (now arcs) (now marks)) × (length (now arcs) ≤ length (now packed)) ⌝ }
-    ensures { λ r. ⌜ (r ≤ length (now (packed .exit))) × Packed (netOf nodes (now (arcs .entry)) (now (marks .entry))) (take r (now (packed .exit))) ⌝ }
+    ensures { λ r. ⌜ (r ≤ length (now (packed .exit))) × Packed (netOf nodes (now (arcs .entry)) (now (marks .entry))) (take r (now (packed .exit))) × (r ≤ length (now (arcs .entry))) ⌝ }
 {
     let m = arcs.len() / 3;
     let mut c = 0;

@@ -1,14 +1,18 @@
 -- A turn carries the list on by one item. Assumes nothing.
-use Prim.Native.Nat.{ℕ, _+_, _≤_, _<_}
+use Prim.Native.Nat.{ℕ, _+_, _*_, _≤_, _<_}
 use mathlib.Core.Path.{_≡_, refl, sym, ap, _∙_, fun-ext}
 use mathlib.Core.Bool.{Bool, true, false}
-use mathlib.Core.List.{List}
+use mathlib.Core.List.{List, []}
 use native.Mathlib.Omega.{arith}
-use lib.ListN.{length, getD}
+use lib.ListN.{length, getD, take}
+use lib.Seq.{getD-take}
 use lib.Dec.{eqb}
 use Rattle.walks.specs.Flat.{graphOf}
-use Rattle.walks.specs.Graph.{Graph, itemCount, closedIn, fits}
-use Rattle.rows.specs.Net.{arcCount}
+use Rattle.walks.specs.Goals.{exitOf}
+use Rattle.walks.specs.Graph.{Graph, itemCount, closedIn, least, fits}
+use Rattle.rows.specs.Held.{held}
+use Rattle.rows.specs.Net.{netOf, arcCount}
+use Rattle.table.specs.Table.{Rowed}
 use Rattle.walks.proofs.FlatLaws.{arcs-count}
 use Rattle.explain.specs.Reasons.{reasons}
 use Rattle.explain.proofs.ReasonLaws.{reasons-alike}
@@ -50,13 +54,13 @@ pub items-are : (n : ℕ) (xs : List ℕ) → itemCount (graphOf n xs) ≡ n + a
 items-are n xs = ap (n +_) (arcs-count xs)
 
 pub going-begun : {n : ℕ} {xs marks : List ℕ} {from to cap : ℕ} {goals starts packed : List ℕ} {c : ℕ} {work : List ℕ} (list : List ℕ)
-    → Begun n xs marks from to cap goals starts packed c work → n + arcCount xs ≤ length marks → length packed ≡ 1536 → length work ≡ 3648
+    → Begun n xs marks from to cap goals starts packed c work → n + arcCount xs ≤ length marks → length work ≡ 3648
     → fits (graphOf n xs) from to cap (closedIn marks) goals ≡ false → Going n xs to cap goals starts marks list 0 marks list 0 packed c work
-going-begun {n} {xs} {marks} {from} {to} {cap} {goals} {starts} list B m w l e =
+going-begun {n} {xs} {marks} {from} {to} {cap} {goals} {starts} list B m l e =
     let q : fitsAt n xs to cap goals starts marks ≡ false = rw (B .source) e in
     record {
       setting = B .setting;
-      state = record { marked = m; wide = w; room = B .room; arcs = B .arcs; long = l; ready = B .ready; blocked = q };
+      state = record { marked = m; links = B .links; long = l; ready = B .ready; blocked = q };
       listing = begun (graphOf n xs) (getD starts 0 0) to cap goals marks list q;
     }
 
@@ -90,3 +94,14 @@ module _ (marks r : List ℕ) (e : (j : ℕ) → getD r j 0 ≡ getD marks j 0) 
 
   pub copied-reasons : (G : Graph) (s t k : ℕ) (goals : List ℕ) → reasons G s t k goals r ≡ reasons G s t k goals marks
   copied-reasons G s t k goals = reasons-alike G s t k goals r marks closed-alike
+
+  -- and the rows in the front of the work are the same
+  pub copied-rowed : (n : ℕ) (xs : List ℕ) (cap a : ℕ) (goals work : List ℕ) → n ≤ 64 → length goals ≤ 8 → Rowed (netOf n xs marks) cap a goals work
+      → Rowed (netOf n xs r) cap a goals (take 3648 work)
+  copied-rowed n xs cap a goals work few eight R = record {
+    first = λ v h. getD-take 3648 work v 0 (omega arith) ∙ R .first v h ∙ alike a v;
+    rows = λ i h v k. getD-take 3648 work (64 + i * 64 + v) 0 (omega arith) ∙ R .rows i h v k ∙ alike (exitOf (graphOf n xs) (getD goals i 0)) v;
+  }
+    where
+      alike : (s v : ℕ) → held cap (least (graphOf n xs) (closedIn marks) [] s v) ≡ held cap (least (graphOf n xs) (closedIn r) [] s v)
+      alike s v = ap (λ (f : ℕ → Bool). held cap (least (graphOf n xs) f [] s v)) (sym (fun-ext closed-alike))

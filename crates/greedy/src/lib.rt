@@ -9,16 +9,14 @@ ghost use Rattle.walks.specs.Graph.{closedIn, fits};
 ghost use Rattle.explain.specs.Reasons.{reasons};
 ghost use Rattle.rows.specs.Held.{missing};
 ghost use Rattle.rows.specs.Net.{netOf, arcCount, Proper};
-ghost use Rattle.table.specs.Table.{GoalsFit};
+ghost use Rattle.table.specs.Table.{GoalsFit, Rowed};
 ghost use Rattle.turns.specs.Turns.{PutDown, Begun, Listed};
 use lengths::Query;
+use links::LINK_NUMBERS;
 use turns::Turn;
 
 // The most items that a graph has, nodes and arcs together.
 const MOST_ITEMS: usize = 576;
-
-// The most numbers that the arcs take, three each.
-const ARC_NUMBERS: usize = 1536;
 
 // The most rows, one from the source and one from where each of eight goals is left.
 const ROWS: usize = 9;
@@ -52,7 +50,7 @@ fn put_down(list: &mut [u32], n: usize, item: usize, listed: bool) -> usize
     n
 }
 
-// Makes ready for the first turn: the starts of the rows, the open arcs, of which it gives the count, the rows, and the goals.
+// Makes ready for the first turn, the rows being there: the starts of the rows, the goals, and the open arcs, of which it gives the count.
 fn begin(
     q: Query,
     arcs: &[u32],
@@ -63,18 +61,15 @@ fn begin(
     work: &mut [u32],
 ) -> usize
     requires { ⌜ Proper (netOf (q .nodes) (now arcs) (now marks)) × GoalsFit (netOf (q .nodes) (now arcs) (now marks)) (now goals) × (length (now arcs) ≤ 1536) ⌝ }
-    requires { ⌜ (length (now packed) ≡ 1536) × (length (now starts) ≡ 9) × (length (now work) ≡ 3648) ⌝ }
-    requires { ⌜ (q .from < q .nodes) × (q .to < q .nodes) × (q .cap < missing) ⌝ }
+    requires { ⌜ (length (now packed) ≡ 2112) × (length (now starts) ≡ 9) × (length (now work) ≡ 3648) ⌝ }
+    requires { ⌜ (q .from < q .nodes) × (q .to < q .nodes) × (q .cap < missing) × Rowed (netOf (q .nodes) (now arcs) (now marks)) (q .cap) (q .from) (now goals) (now work) ⌝ }
     ensures { λ r. ⌜ Begun (q .nodes) (now (arcs .entry)) (now (marks .entry)) (q .from) (q .to) (q .cap) (now (goals .entry)) (take (length (now (goals .entry)) + 1) (now (starts .exit))) (now (packed .exit)) r (now (work .exit)) ⌝ }
 {
     let nodes = q.nodes;
     let cap = q.cap;
     lengths::set_starts(nodes, arcs, q.from, goals, starts);
-    let n = arcs::pack(nodes, arcs, marks, packed);
-    let count = goals.len() + 1;
-    filling::fill_rows(&packed[..n], marks, &starts[..count], work, cap);
     lengths::note_goals(nodes, arcs, marks, goals, work, cap);
-    n / 3
+    links::pack_all(nodes, arcs, marks, packed)
 }
 
 // Takes the items' turns in ascending order and writes the listed ones to the front of `list`. The marks are left with the opened items open.
@@ -88,13 +83,13 @@ fn fill_list(
 ) -> usize
     requires { ⌜ Proper (netOf (q .nodes) (now arcs) (now marks)) × GoalsFit (netOf (q .nodes) (now arcs) (now marks)) (now goals) × (length (now arcs) ≤ 1536) ⌝ }
     requires { ⌜ (length (now work) ≡ 3648) × (q .nodes + arcCount (now arcs) ≤ length (now list)) × (q .from < q .nodes) × (q .to < q .nodes) × (q .cap < missing) ⌝ }
-    requires { ⌜ fits (graphOf (q .nodes) (now arcs)) (q .from) (q .to) (q .cap) (closedIn (now marks)) (now goals) ≡ false ⌝ }
+    requires { ⌜ (fits (graphOf (q .nodes) (now arcs)) (q .from) (q .to) (q .cap) (closedIn (now marks)) (now goals) ≡ false) × Rowed (netOf (q .nodes) (now arcs) (now marks)) (q .cap) (q .from) (now goals) (now work) ⌝ }
     ensures { λ r. ⌜ Listed (reasons (graphOf (q .nodes) (now (arcs .entry))) (q .from) (q .to) (q .cap) (now (goals .entry)) (now (marks .entry))) (now (list .entry)) (now (list .exit)) r ⌝ }
 {
     let nodes = q.nodes;
     let to = q.to;
     let cap = q.cap;
-    let mut packed = [0u32; ARC_NUMBERS];
+    let mut packed = [0u32; LINK_NUMBERS];
     let mut starts = [0usize; ROWS];
     let mut count = begin(q, arcs, marks, goals, &mut packed, &mut starts, work);
     let rows = goals.len() + 1;
@@ -118,8 +113,8 @@ fn fill_list(
 }
 
 // Writes the reason for the goals and the limit `cap`, from `from` to `to`, to the front of `list` and gives how many items it has: the greedy list of
-// document 01, 'Reasons'. No walk clear of the forbidden items meets the goals within the limit. The work is left with what was found; from its
-// number 16384 on it is as it was.
+// document 01, 'Reasons'. No walk clear of the forbidden items meets the goals within the limit, and the rows for the goals are in the work. The work is
+// left with what was found; from its number 16384 on it is as it was.
 pub fn list_reasons(
     q: Query,
     arcs: &[u32],
@@ -130,7 +125,7 @@ pub fn list_reasons(
 ) -> usize
     requires { ⌜ Proper (netOf (q .nodes) (now arcs) (now marks)) × GoalsFit (netOf (q .nodes) (now arcs) (now marks)) (now goals) × (length (now arcs) ≤ 1536) × (length (now marks) ≤ 576) ⌝ }
     requires { ⌜ (16384 ≤ length (now work)) × (q .nodes + arcCount (now arcs) ≤ length (now list)) × (q .from < q .nodes) × (q .to < q .nodes) × (q .cap < missing) ⌝ }
-    requires { ⌜ fits (graphOf (q .nodes) (now arcs)) (q .from) (q .to) (q .cap) (closedIn (now marks)) (now goals) ≡ false ⌝ }
+    requires { ⌜ (fits (graphOf (q .nodes) (now arcs)) (q .from) (q .to) (q .cap) (closedIn (now marks)) (now goals) ≡ false) × Rowed (netOf (q .nodes) (now arcs) (now marks)) (q .cap) (q .from) (now goals) (now work) ⌝ }
     ensures { λ _. ⌜ now (list .exit) ≡ front (reasons (graphOf (q .nodes) (now (arcs .entry))) (q .from) (q .to) (q .cap) (now (goals .entry)) (now (marks .entry))) (now (list .entry)) ⌝ }
     ensures { λ r. ⌜ r ≡ length (reasons (graphOf (q .nodes) (now (arcs .entry))) (q .from) (q .to) (q .cap) (now (goals .entry)) (now (marks .entry))) ⌝ }
     ensures { λ _. ⌜ drop 16384 (now (work .exit)) ≡ drop 16384 (now (work .entry)) ⌝ }

@@ -3,9 +3,9 @@ ghost use mathlib.Core.Path.{_≡_};
 ghost use mathlib.Core.Bool.{true, not, _&&_};
 ghost use mathlib.Core.List.{[], _∷_};
 ghost use Prim.Native.Nat.{_+_, _≤_, _<_};
-ghost use lib.ListN.{length, getD, drop};
+ghost use lib.ListN.{length, getD, take, drop};
 ghost use Rattle.sheet.specs.Sheet.{isMandatory};
-ghost use Rattle.table.specs.Table.{GoalsFit};
+ghost use Rattle.table.specs.Table.{GoalsFit, Rowed};
 ghost use Rattle.rows.specs.Net.{netOf};
 ghost use Rattle.verdict.specs.Verdict.{fitsSheet, unmet};
 ghost use Rattle.required.specs.Held.{sheetOf, Whole};
@@ -49,10 +49,11 @@ pub struct Verdict {
     pub count: usize,
 }
 
-// Whether some such walk meets all goals.
+// Whether some such walk meets all goals. Their rows are left in the work.
 fn fits_goals(header: Header, arcs: &[u32], marks: &[u8], goals: &[usize], work: &mut [u32]) -> bool
     requires { ⌜ Whole header (now arcs) (now marks) × GoalsFit (netOf (header .nodes) (now arcs) (now marks)) (now goals) × (16384 ≤ length (now work)) ⌝ }
     ensures { λ r. ⌜ r ≡ fitsSheet (sheetOf header (now (arcs .entry)) (now (marks .entry))) (now (goals .entry)) ⌝ }
+    ensures { λ _. ⌜ Rowed (netOf (header .nodes) (now (arcs .entry)) (now (marks .entry))) (header .limit) (header .source) (now (goals .entry)) (now (work .exit)) ⌝ }
     ensures { λ _. ⌜ drop 16384 (now (work .exit)) ≡ drop 16384 (now (work .entry)) ⌝ }
 {
     let limit = header.limit;
@@ -76,6 +77,7 @@ fn judge_together(
     requires { ⌜ Whole header (now arcs) (now marks) × (length (now goals) ≡ 64) × (16384 ≤ length (now work)) ⌝ }
     requires { ⌜ (fitsSheet (sheetOf header (now arcs) (now marks)) [] ≡ true) × (unmet (sheetOf header (now arcs) (now marks)) ≡ []) ⌝ }
     ensures { λ r. ⌜ Judged (sheetOf header (now (arcs .entry)) (now (marks .entry))) r (now (goals .exit)) ⌝ }
+    ensures { λ r. ⌜ (r .number ≡ 3 → Rowed (netOf (header .nodes) (now (arcs .entry)) (now (marks .entry))) (header .limit) (header .source) (take (r .count) (now (goals .exit))) (now (work .exit))) ⌝ }
     ensures { λ _. ⌜ drop 16384 (now (work .exit)) ≡ drop 16384 (now (work .entry)) ⌝ }
 {
     let count = required::required_nodes(header, arcs, marks, goals);
@@ -97,7 +99,7 @@ fn judge_together(
     }
 }
 
-// The verdict of a sheet. Its goals stand in front of `goals` then.
+// The verdict of a sheet. Its goals stand in front of `goals` then, and for verdict 3 their rows in the work.
 pub fn judge(
     header: Header,
     arcs: &[u32],
@@ -108,6 +110,7 @@ pub fn judge(
 ) -> Verdict
     requires { ⌜ Rows header (now arcs) (now marks) (now rows) × (length (now goals) ≡ 64) × (16384 ≤ length (now work)) ⌝ }
     ensures { λ r. ⌜ Judged (sheetOf header (now (arcs .entry)) (now (marks .entry))) r (now (goals .exit)) ⌝ }
+    ensures { λ r. ⌜ (r .number ≡ 3 → Rowed (netOf (header .nodes) (now (arcs .entry)) (now (marks .entry))) (header .limit) (header .source) (take (r .count) (now (goals .exit))) (now (work .exit))) ⌝ }
     ensures { λ _. ⌜ drop 16384 (now (work .exit)) ≡ drop 16384 (now (work .entry)) ⌝ }
 {
     let target = header.target;

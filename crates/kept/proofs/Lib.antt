@@ -1,2 +1,1 @@
-pub mod CopyLaws
-pub mod PartLaws
+pub mod KeptLaws

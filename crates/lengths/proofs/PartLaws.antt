@@ -1,5 +1,5 @@
 -- The rows and notes with which the table is begun, and the whole asked for. Assumes nothing.
-use Prim.Native.Nat.{ℕ, _+_, _*_, _-_, _^_, _≤_, _<_}
+use Prim.Native.Nat.{ℕ, zero, suc, _+_, _*_, _-_, _^_, _≤_, _<_}
 use mathlib.Core.Path.{_≡_, refl, sym, ap, _∙_}
 use mathlib.Core.List.{List, []}
 use native.Mathlib.Omega.{arith}
@@ -15,7 +15,7 @@ use Rattle.rows.specs.Net.{Net, graph, closed, Proper, Packed}
 use Rattle.rows.specs.Rows.{RowsAre, StartsOf, StartsFit}
 use Rattle.walks.specs.Graph.{Graph, least}
 use Rattle.walks.specs.Goals.{entryOf, exitOf, ownOf}
-use Rattle.table.proofs.SetLaws.{chosen-all}
+use Rattle.table.proofs.SetLaws.{length-none, chosen-all}
 use Rattle.table.proofs.TableLaws.{same-front, asked-of}
 use Rattle.table.specs.Sets.{chosen}
 use Rattle.table.specs.Table.{GoalsFit, StartsTo, StartsAre, Rowed, NotedTo, Noted, Filled, Asked, TableFits}
@@ -31,6 +31,21 @@ rowed-of {N} {cap} {work = work} n q S R = record {
       let e : 64 + i * 64 + v ≡ (i + 1) * 64 + v = omega arith in
       rw e (R (i + 1) (omega arith) v hv ∙ ap (λ (s : ℕ). held cap (least (graph N) (closed N) [] s v)) (S .exits i h));
 }
+
+-- and the other way round
+pub rows-of : {N : Net} {cap a n : ℕ} {goals starts work : List ℕ} → n ≡ length goals + 1 → StartsAre (graph N) a goals starts → Rowed N cap a goals work
+    → RowsAre N cap starts n work
+rows-of {N} {cap} {goals = goals} {starts} {work} q S R i h v hv = go i (omega arith)
+  where
+    go : (i : ℕ) → i < length goals + 1 → getD work (i * 64 + v) 0 ≡ held cap (least (graph N) (closed N) [] (getD starts i 0) v)
+    go zero l =
+        let e : 0 * 64 + v ≡ v = omega arith in
+        ap (λ (k : ℕ). getD work k 0) e ∙ R .first v hv ∙ ap (λ (s : ℕ). held cap (least (graph N) (closed N) [] s v)) (sym (S .source))
+    go (suc j) l =
+        let e : suc j * 64 + v ≡ 64 + j * 64 + v = omega arith in
+        let d : j + 1 ≡ suc j = omega arith in
+        ap (λ (k : ℕ). getD work k 0) e ∙ R .rows j (omega arith) v hv
+        ∙ ap (λ (s : ℕ). held cap (least (graph N) (closed N) [] s v)) (sym (S .exits j (omega arith)) ∙ ap (λ (k : ℕ). getD starts k 0) d)
 
 pub start-begun : (G : Graph) (a : ℕ) (goals starts : List ℕ) → a < G .nodes → 0 < length starts → StartsTo G a goals 0 (set starts 0 a)
 start-begun G a goals starts h l = record {
@@ -141,12 +156,15 @@ filled-begun {N} p g R E = record {
   sets = λ S h. absurd (omega arith);
 }
 
--- the whole: all sets filled, and the set of all goals asked
-pub all-goals : {N : Net} {cap a : ℕ} {goals work : List ℕ} (k b v r : ℕ) → length goals ≡ k → Filled N cap a goals (2 ^ k) work → b ≡ 2 ^ k → v < N .nodes
-    → ((N : Net) (a : ℕ) (goals′ : List ℕ) → Asked N cap a goals′ k (b - 1) v work → r ≡ held cap (least (graph N) (closed N) (chosen goals′ (b - 1)) a v))
-    → r ≡ held cap (least (graph N) (closed N) goals a v)
-all-goals {N} {cap} {a} {goals} {work} k b v r l F q h reach =
-    let p : 1 ≤ 2 ^ k = one-le-pow k 2 (omega arith) in
-    let e : chosen goals (b - 1) ≡ goals = ap (λ (x : ℕ). chosen goals (x - 1)) (q ∙ ap (λ (n : ℕ). 2 ^ n) (sym l)) ∙ chosen-all goals in
-    reach N a goals (asked-of F k (b - 1) v l (omega arith) (omega arith) h)
-    ∙ ap (λ (gs : List ℕ). held cap (least (graph N) (closed N) gs a v)) e
+-- the whole: all sets filled, and the set of all goals asked, where there are any
+module _ {N : Net} {cap a : ℕ} {goals work : List ℕ} (k v : ℕ) (l : length goals ≡ k) (F : Filled N cap a goals (2 ^ k) work) (h : v < N .nodes) where
+  pub no-goals : k ≡ 0 → getD work v 0 ≡ held cap (least (graph N) (closed N) goals a v)
+  no-goals z = rw (length-none goals (l ∙ z)) (F .rowed .first v h)
+
+  pub all-goals : (b r : ℕ) → b ≡ 2 ^ k
+      → ((N : Net) (a : ℕ) (goals′ : List ℕ) → Asked N cap a goals′ (b - 1) v work → r ≡ held cap (least (graph N) (closed N) (chosen goals′ (b - 1)) a v))
+      → r ≡ held cap (least (graph N) (closed N) goals a v)
+  all-goals b r q reach =
+      let p : 1 ≤ 2 ^ k = one-le-pow k 2 (omega arith) in
+      let e : chosen goals (b - 1) ≡ goals = ap (λ (x : ℕ). chosen goals (x - 1)) (q ∙ ap (λ (n : ℕ). 2 ^ n) (sym l)) ∙ chosen-all goals in
+      reach N a goals (asked-of F (b - 1) v (omega arith) (rw l (omega arith)) h) ∙ ap (λ (gs : List ℕ). held cap (least (graph N) (closed N) gs a v)) e

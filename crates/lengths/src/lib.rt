@@ -7,7 +7,7 @@ ghost use Rattle.walks.specs.Graph.{closedIn, least as leastOf};
 ghost use Rattle.walks.specs.Flat.{graphOf};
 ghost use Rattle.rows.specs.Held.{missing, code, atMost, held};
 ghost use Rattle.rows.specs.Net.{Net, netOf, graph, closed, arcCount, Proper, Joins};
-ghost use Rattle.table.specs.Table.{GoalsFit, StartsAre, Rowed, Noted, Filled, TableFits, TableOnly};
+ghost use Rattle.table.specs.Table.{GoalsFit, StartsAre, Rowed, Noted, Filled, TableFits, SetFits, TableOnly};
 use table::ENTRIES;
 use table::OWN_LENGTHS;
 
@@ -60,16 +60,17 @@ pub fn note_goals(
     }
 }
 
-// Fills the table's entries for a set.
-fn fill_set(work: &mut [u32], count: usize, set: u32, cap: u32)
-    requires { ⌜ TableFits count (now work) × (set < 2 ^ count) × (cap < missing) ⌝ }
-    ensures { λ _. ⌜ ((N : Net) (a : ℕ) (goals : List ℕ) → length goals ≡ count → Filled N cap a goals set (now (work .entry)) → Filled N cap a goals (set + 1) (now (work .exit))) ⌝ }
+// Fills the table's entries for the goals of a set.
+fn fill_set(work: &mut [u32], set: u32, cap: u32)
+    requires { ⌜ SetFits set (now work) × (cap < missing) ⌝ }
+    ensures { λ _. ⌜ ((N : Net) (a : ℕ) (goals : List ℕ) → set < 2 ^ length goals → Filled N cap a goals set (now (work .entry)) → Filled N cap a goals (set + 1) (now (work .exit))) ⌝ }
     ensures { λ _. ⌜ TableOnly (now (work .entry)) (now (work .exit)) ⌝ }
 {
-    let mut i = 0;
-    while i < count {
-        table::put(work, count, set, i, cap);
-        i += 1;
+    let mut rest = set;
+    while rest != 0 {
+        let i = u32::trailing_zeros(rest) as usize;
+        table::put(work, set, i, cap);
+        rest = rest & (rest - 1);
     }
 }
 
@@ -82,7 +83,7 @@ pub fn fill_table(work: &mut [u32], count: usize, cap: u32)
     let end = table::bit(count);
     let mut set: u32 = 0;
     while set < end {
-        fill_set(work, count, set, cap);
+        fill_set(work, set, cap);
         set += 1;
     }
 }
@@ -92,11 +93,14 @@ pub fn reach_goals(work: &[u32], count: usize, to: usize, cap: u32) -> u32
     requires { ⌜ (3072 ≤ length (now work)) × (count ≤ 8) × (to < 64) × (cap < missing) ⌝ }
     ensures { λ r. ⌜ ((N : Net) (a : ℕ) (goals : List ℕ) → length goals ≡ count → to < N .nodes → Filled N cap a goals (2 ^ count) (now (work .entry)) → r ≡ held cap (leastOf (graph N) (closed N) goals a to)) ⌝ }
 {
-    table::reach(work, count, table::bit(count) - 1, to, cap)
+    if count == 0 {
+        return work[to];
+    }
+    table::reach(work, table::bit(count) - 1, to, cap)
 }
 
 // Fills the rows: from the source, and from where each goal is left.
-fn start_rows(q: Query, arcs: &[u32], marks: &[u8], goals: &[usize], work: &mut [u32])
+pub fn start_rows(q: Query, arcs: &[u32], marks: &[u8], goals: &[usize], work: &mut [u32])
     requires { ⌜ Proper (netOf (q .nodes) (now arcs) (now marks)) × GoalsFit (netOf (q .nodes) (now arcs) (now marks)) (now goals) × (length (now arcs) ≤ 1536) ⌝ }
     requires { ⌜ (3072 ≤ length (now work)) × (q .from < q .nodes) × (q .cap < missing) ⌝ }
     ensures { λ _. ⌜ Rowed (netOf (q .nodes) (now (arcs .entry)) (now (marks .entry))) (q .cap) (q .from) (now (goals .entry)) (now (work .exit)) ⌝ }
@@ -111,11 +115,12 @@ fn start_rows(q: Query, arcs: &[u32], marks: &[u8], goals: &[usize], work: &mut 
 }
 
 // The least length of a walk from `from` to `to`, clear of the forbidden items, that meets all goals; MISSING where there is none of at most
-// `cap`. The first 3072 numbers of the work are overwritten, the rest stays.
+// `cap`. The rows are left in the work; its first 3072 numbers are overwritten, the rest stays.
 pub fn least(q: Query, arcs: &[u32], marks: &[u8], goals: &[usize], work: &mut [u32]) -> u32
     requires { ⌜ Proper (netOf (q .nodes) (now arcs) (now marks)) × GoalsFit (netOf (q .nodes) (now arcs) (now marks)) (now goals) × (length (now arcs) ≤ 1536) ⌝ }
     requires { ⌜ (3072 ≤ length (now work)) × (q .from < q .nodes) × (q .to < q .nodes) × (q .cap < missing) ⌝ }
     ensures { λ r. ⌜ r ≡ code (atMost (q .cap) (leastOf (graphOf (q .nodes) (now (arcs .entry))) (closedIn (now (marks .entry))) (now (goals .entry)) (q .from) (q .to))) ⌝ }
+    ensures { λ _. ⌜ Rowed (netOf (q .nodes) (now (arcs .entry)) (now (marks .entry))) (q .cap) (q .from) (now (goals .entry)) (now (work .exit)) ⌝ }
     ensures { λ _. ⌜ drop 3072 (now (work .exit)) ≡ drop 3072 (now (work .entry)) ⌝ }
 {
     let count = goals.len();

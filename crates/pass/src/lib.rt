@@ -5,7 +5,7 @@ ghost use Prim.Native.Nat.{_+_, _*_, _≤_};
 ghost use lib.ListN.{length, drop};
 ghost use Rattle.lists.specs.Lists.{front};
 ghost use Rattle.rows.specs.Net.{netOf};
-ghost use Rattle.table.specs.Table.{GoalsFit};
+ghost use Rattle.table.specs.Table.{GoalsFit, Rowed};
 ghost use Rattle.verdict.specs.Verdict.{fitsSheet, reasonsFor, passSlip, verdict as verdictOf};
 ghost use Rattle.verdict.specs.Pass.{passed};
 ghost use Rattle.required.specs.Held.{sheetOf, Whole};
@@ -28,13 +28,41 @@ const TWO_ROWS: usize = 128;
 
 const ROW_LENGTH: usize = 64;
 
+// The verdict that no walk meets all goals at once.
+const ALL_GOALS: u32 = 3;
+
 // What pass and reason answer: the refusal number, 0 where the call finished, and the slip's length.
 pub struct Answer {
     pub number: u32,
     pub length: usize,
 }
 
-// Writes the reasons for the goals over the front of `list` and gives their count.
+// Has the rows for the goals ready in the work: for verdict 3 they are there already.
+pub fn ready_rows(
+    header: Header,
+    arcs: &[u32],
+    marks: &[u8],
+    first: u32,
+    goals: &[usize],
+    work: &mut [u32],
+)
+    requires { ⌜ Whole header (now arcs) (now marks) × GoalsFit (netOf (header .nodes) (now arcs) (now marks)) (now goals) × (16384 ≤ length (now work)) ⌝ }
+    requires { ⌜ (first ≡ 3 → Rowed (netOf (header .nodes) (now arcs) (now marks)) (header .limit) (header .source) (now goals) (now work)) ⌝ }
+    ensures { λ _. ⌜ Rowed (netOf (header .nodes) (now (arcs .entry)) (now (marks .entry))) (header .limit) (header .source) (now (goals .entry)) (now (work .exit)) ⌝ }
+    ensures { λ _. ⌜ drop 16384 (now (work .exit)) ≡ drop 16384 (now (work .entry)) ⌝ }
+{
+    let query = Query {
+        nodes: header.nodes,
+        from: header.source,
+        to: header.target,
+        cap: header.limit,
+    };
+    if first != ALL_GOALS {
+        lengths::start_rows(query, arcs, marks, goals, work);
+    }
+}
+
+// Writes the reasons for the goals, whose rows are in the work, over the front of `list` and gives their count.
 pub fn list_reasons(
     header: Header,
     arcs: &[u32],
@@ -44,7 +72,7 @@ pub fn list_reasons(
     list: &mut [u32],
 ) -> usize
     requires { ⌜ Whole header (now arcs) (now marks) × GoalsFit (netOf (header .nodes) (now arcs) (now marks)) (now goals) ⌝ }
-    requires { ⌜ (16384 ≤ length (now work)) × (576 ≤ length (now list)) × (fitsSheet (sheetOf header (now arcs) (now marks)) (now goals) ≡ false) ⌝ }
+    requires { ⌜ (16384 ≤ length (now work)) × (576 ≤ length (now list)) × (fitsSheet (sheetOf header (now arcs) (now marks)) (now goals) ≡ false) × Rowed (netOf (header .nodes) (now arcs) (now marks)) (header .limit) (header .source) (now goals) (now work) ⌝ }
     ensures { λ r. ⌜ r ≡ length (reasonsFor (sheetOf header (now (arcs .entry)) (now (marks .entry))) (now (goals .entry))) ⌝ }
     ensures { λ _. ⌜ now (list .exit) ≡ front (reasonsFor (sheetOf header (now (arcs .entry)) (now (marks .entry))) (now (goals .entry))) (now (list .entry)) ⌝ }
     ensures { λ _. ⌜ drop 16384 (now (work .exit)) ≡ drop 16384 (now (work .entry)) ⌝ }
@@ -80,6 +108,7 @@ fn write_answer(
     }
     let count = verdict.count;
     let mut list = [0u32; ITEMS];
+    ready_rows(header, arcs, marks, verdict.number, &goals[..count], work);
     let n = list_reasons(header, arcs, marks, &goals[..count], work, &mut list);
     slip::write_slip(slip, verdict.number, &goals[..count], &list[..n])
 }

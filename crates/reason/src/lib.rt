@@ -64,6 +64,7 @@ fn explain_item(
     }
     let goals = [item; 1];
     let mut list = [0u32; pass::ITEMS];
+    pass::ready_rows(header, arcs, marks, STRUCK, &goals, work);
     let n = pass::list_reasons(header, arcs, marks, &goals, work, &mut list);
     Answer {
         number: 0,

@@ -1,3 +1,4 @@
-pub mod PackOpened
 pub mod ArcOpened
 pub mod RowsOpened
+pub mod SavesLaws
+pub mod ItemLaws

@@ -1,5 +1,5 @@
 -- Rows that lie one after the other in the work: one more is written, and what lies behind is as it was. Assumes nothing.
-use Prim.Native.Nat.{ℕ, _+_, _*_, _≤_, _<_}
+use Prim.Native.Nat.{ℕ, _+_, _-_, _*_, _≤_, _<_}
 use mathlib.Core.Path.{_≡_, sym, ap, _∙_, subst}
 use mathlib.Core.List.{List, _++_, append-assoc}
 use native.Mathlib.Omega.{arith}
@@ -47,3 +47,15 @@ row-entry work i v h = getD-take 64 (drop (i * 64) work) v 0 h ∙ getD-drop (i 
 -- rows that hold least lengths are sound
 pub rows-sound : (N : Net) (cap : ℕ) (starts work : List ℕ) → N .nodes ≤ 64 → cap < missing → RowsAre N cap starts (length starts) work → RowsSound N cap starts work
 rows-sound N cap starts work few c R i h = row-sound N cap (getD starts i 0) (rowAt work i) c (λ v hv. row-entry work i v (omega arith) ∙ R i h v hv)
+
+-- rows in another list that has the same numbers there
+pub rows-same : (N : Net) (cap : ℕ) (starts : List ℕ) (n : ℕ) (work after : List ℕ) → N .nodes ≤ 64
+    → ((j : ℕ) → j < n * 64 → getD after j 0 ≡ getD work j 0) → RowsAre N cap starts n work → RowsAre N cap starts n after
+rows-same N cap starts n work after few e R i h v hv = e (i * 64 + v) (omega arith) ∙ R i h v hv
+
+-- what lies behind the first n numbers
+pub behind : (n : ℕ) (xs ys : List ℕ) → drop n xs ≡ drop n ys → (j : ℕ) → n ≤ j → getD xs j 0 ≡ getD ys j 0
+behind n xs ys e j h =
+    let q : n + (j - n) ≡ j = omega arith in
+    ap (λ (k : ℕ). getD xs k 0) (sym q) ∙ sym (getD-drop n xs (j - n) 0) ∙ ap (λ (l : List ℕ). getD l (j - n) 0) e ∙ getD-drop n ys (j - n) 0
+    ∙ ap (λ (k : ℕ). getD ys k 0) q

@@ -1,3 +1,4 @@
 pub mod LooseLaws
+pub mod RestLaws
 pub mod SetLaws
 pub mod TableLaws

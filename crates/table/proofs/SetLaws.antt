@@ -6,17 +6,18 @@ use mathlib.Core.Bool.{Bool, true, false, true≢false}
 use mathlib.Core.List.{List, [], _∷_}
 use native.Mathlib.Omega.{arith}
 use native.Mathlib.Nat.{two-pow-succ, pow-succ', div-div-eq-div-mul, div-one}
-use native.Mathlib.Decide.{ℕ-discrete}
+use native.Mathlib.Decide.{ℕ-discrete, decLt}
 use lib.ListN.{length, getD}
 use lib.Dec.{eqb}
 use lib.Count.{ones, onesIn, ones-step}
+use lib.Pow.{pow-mono}
 use borrow.Author.Tests.{eqb-true, eqb-false, ne-eqb}
 use Rattle.lists.proofs.MemberLaws.{member-head, member-tail, member-cases, member-none}
 use Rattle.lists.specs.Lists.{member, add, Distinct}
 use Rattle.walks.proofs.GoalLaws.{Item, Others, Under, under-self, under-lesser, lesser-one, impossible, last-goal-of}
 use Rattle.walks.specs.Goals.{lastly}
 use Rattle.walks.specs.Graph.{Graph, least}
-use Rattle.walks.specs.Lengths.{Least, some}
+use Rattle.walks.specs.Lengths.{Least, none, some, lesser}
 use Rattle.table.specs.Sets.{odd, has, chosen, given, anyIn}
 
 pow-pos : (i : ℕ) → 1 ≤ 2 ^ i
@@ -38,6 +39,13 @@ pub has-le : (S i : ℕ) → has S i ≡ true → 2 ^ i ≤ S
 unfolding has
 has-le S zero e = omega (arith, odd-digit S e)
 has-le S (suc i) e = omega (arith, two-pow-succ i, has-le (S / 2) i e)
+
+pub has-below : (S i n : ℕ) → S < 2 ^ n → has S i ≡ true → i < n
+has-below S i n h e = go (decLt i n)
+  where
+    go : Dec (i < n) → i < n
+    go (yes l) = l
+    go (no l) = let p : 2 ^ n ≤ 2 ^ i = pow-mono (omega arith) in absurd (omega (arith, has-le S i e))
 
 pub but-less : (S i : ℕ) → has S i ≡ true → S - 2 ^ i < S
 but-less S i e = omega (arith, has-le S i e, pow-pos i)
@@ -104,10 +112,43 @@ chosen-count (g ∷ gs) S h = go (odd S) refl (chosen-count gs (S / 2) (omega (a
     go true q ih = omega (arith, eqb-true (S % 2) 1 q)
     go false q ih = omega (arith, zero-of (S % 2) (omega arith) (eqb-false (S % 2) 1 q))
 
-pub chosen-none : (goals : List ℕ) → chosen goals 0 ≡ []
+chosen-none : (goals : List ℕ) → chosen goals 0 ≡ []
 unfolding chosen add odd
 chosen-none [] = refl
 chosen-none (g ∷ gs) = chosen-none gs
+
+pub length-none : (xs : List ℕ) → length xs ≡ 0 → xs ≡ []
+length-none [] e = refl
+length-none (x ∷ xs) e = absurd (omega arith)
+
+-- a set holds one goal more than it does without one of them
+but-count : (goals : List ℕ) (S i : ℕ) → i < length goals → has S i ≡ true → length (chosen goals S) ≡ 1 + length (chosen goals (S - 2 ^ i))
+unfolding chosen has add odd
+but-count [] S i h e = absurd (omega arith)
+but-count (g ∷ gs) S zero h e =
+    let o : (S - 2 ^ 0) % 2 ≡ 0 = omega (arith, odd-digit S e) in
+    let q : (S - 2 ^ 0) / 2 ≡ S / 2 = omega (arith, odd-digit S e) in
+    rw (e, o, q) (omega arith)
+but-count (g ∷ gs) S (suc i) h e = rw (half-but S i e .0, half-but S i e .1) (go (odd S) (but-count gs (S / 2) i (omega arith) e))
+  where
+    go : (t : Bool) → length (chosen gs (S / 2)) ≡ 1 + length (chosen gs (S / 2 - 2 ^ i)) → length (add t g (chosen gs (S / 2))) ≡ 1 + length (add t g (chosen gs (S / 2 - 2 ^ i)))
+    go true ih = omega arith
+    go false ih = ih
+
+-- a set of one goal is empty without it, and a larger one is not
+module _ (goals : List ℕ) (S i : ℕ) (h : S < 2 ^ length goals) (e : has S i ≡ true) where
+  one-more : length (chosen goals S) ≡ 1 + length (chosen goals (S - 2 ^ i))
+  one-more = but-count goals S i (has-below S i (length goals) h e) e
+
+  pub but-none : length (chosen goals S) ≡ 1 → chosen goals (S - 2 ^ i) ≡ []
+  but-none o = length-none (chosen goals (S - 2 ^ i)) (omega (arith, one-more))
+
+  pub but-some : (length (chosen goals S) ≡ 1 → ⊥) → 0 < S - 2 ^ i
+  but-some n = go (ℕ-discrete (S - 2 ^ i) 0)
+    where
+      go : Dec (S - 2 ^ i ≡ 0) → 0 < S - 2 ^ i
+      go (yes z) = absurd (n (rw (z, chosen-none) at one-more))
+      go (no z) = omega arith
 
 pub chosen-all : (goals : List ℕ) → chosen goals (2 ^ length goals - 1) ≡ goals
 unfolding chosen add odd
@@ -153,6 +194,21 @@ others-but goals S i d h e = record { fewer = fewer; more = more }
         go c (yes q) = inl (c .is ∙ ap (λ (k : ℕ). getD goals k 0) q)
         go c (no q) = inr (rw (c .is) (has-chosen goals (S - 2 ^ i) (c .at) (c .below) (but-other S i (c .at) e q ∙ c .in-set)))
 
+-- a set of a number above 0 holds a goal
+chosen-some : (goals : List ℕ) (S : ℕ) → S < 2 ^ length goals → 0 < S → chosen goals S ≡ [] → ⊥
+unfolding chosen add odd
+chosen-some [] S h z q = omega arith
+chosen-some (g ∷ gs) S h z q = go (odd S) refl q (chosen-some gs (S / 2) (omega (arith, two-pow-succ (length gs))))
+  where
+    go : (t : Bool) → eqb (S % 2) 1 ≡ t → add t g (chosen gs (S / 2)) ≡ [] → (0 < S / 2 → chosen gs (S / 2) ≡ [] → ⊥) → ⊥
+    go true o q ih = let n : _≡_ {A = ℕ} 0 1 = cc in omega arith
+    go false o q ih = ih (omega (arith, eqb-false (S % 2) 1 o)) q
+
+lesser-none : (r : Least) → lesser r none ≡ r
+unfolding lesser
+lesser-none none = refl
+lesser-none (some k) = refl
+
 -- The least length over the goals of a set that is not empty, by the last goal.
 module _ (G : Graph) (closed : ℕ → Bool) (a b : ℕ) (goals : List ℕ) (S : ℕ) where
   abbrev at-last : ℕ → Least
@@ -185,12 +241,23 @@ module _ (G : Graph) (closed : ℕ → Bool) (a b : ℕ) (goals : List ℕ) (S :
           rw (q, e′) (under-lesser (anyIn G closed a b goals S n) (at-last n) (at-last n) (inr (under-self (at-last n))))
       go (no q) ih = under-lesser (anyIn G closed a b goals S n) (given (has S n) (at-last n)) (at-last i) (inl (ih (omega arith) e))
 
-  pub last-in : Distinct goals → ((i : ℕ) → i < length goals → Item G (getD goals i 0)) → S < 2 ^ length goals → (ones S ≡ 0 → ⊥)
+  -- no goal of the set from k to below i: none more to look at
+  pub any-skips : (k i : ℕ) → k ≤ i → ((j : ℕ) → k ≤ j → j < i → has S j ≡ false) → anyIn G closed a b goals S i ≡ anyIn G closed a b goals S k
+  unfolding anyIn given
+  any-skips k zero h f = let q : k ≡ 0 = omega arith in rw q
+  any-skips k (suc i) h f = go (ℕ-discrete k (suc i)) (any-skips k i)
+    where
+      go : Dec (k ≡ suc i) → (k ≤ i → ((j : ℕ) → k ≤ j → j < i → has S j ≡ false) → anyIn G closed a b goals S i ≡ anyIn G closed a b goals S k)
+          → anyIn G closed a b goals S (suc i) ≡ anyIn G closed a b goals S k
+      go (yes q) ih = ap (anyIn G closed a b goals S) (sym q)
+      go (no q) ih = let e : has S i ≡ false = f i (omega arith) (omega arith) in rw (e, lesser-none) (ih (omega arith) (λ j l m. f j l (omega arith)))
+
+  pub last-in : Distinct goals → ((i : ℕ) → i < length goals → Item G (getD goals i 0)) → S < 2 ^ length goals → 0 < S
       → least G closed (chosen goals S) a b ≡ anyIn G closed a b goals S (length goals)
-  last-in d items h n =
+  last-in d items h z =
       last-goal-of G closed (chosen goals S) a b (anyIn G closed a b goals S (length goals))
       (λ g m. let c = chosen-has goals S g m in rw (c .is) (items (c .at) (c .below)))
-      (λ q. n (sym (chosen-count goals S h) ∙ ap length q))
+      (chosen-some goals S h z)
       (record { one = one; all = all })
     where
       one : (k : ℕ) → anyIn G closed a b goals S (length goals) ≡ some k

@@ -1,6 +1,8 @@
 -- What lies in the work while the least length over goals is looked for: the rows (9 of 64 numbers: from the source, and from where each goal is
--- left), from 576 on the node where each goal is entered, from 584 on each goal's own length, and from 1024 on the table, 8 entries for each set of goals.
+-- left), from 576 on the node where each goal is entered, from 584 on each goal's own length, and from 1024 on the table, room for 8 entries for each set
+-- of goals.
 use mathlib.Core.Path.{_≡_}
+use mathlib.Core.Bool.{true}
 use mathlib.Core.List.{List, []}
 use Prim.Native.Nat.{ℕ, _+_, _*_, _-_, _^_, _≤_, _<_}
 use lib.ListN.{length, getD, take, drop}
@@ -10,7 +12,7 @@ use Rattle.rows.specs.Net.{Net, graph, closed, count}
 use Rattle.rows.specs.Rows.{RowIs}
 use Rattle.walks.specs.Goals.{entryOf, exitOf, ownOf}
 use Rattle.walks.specs.Graph.{Graph, least}
-use Rattle.table.specs.Sets.{has, given, past}
+use Rattle.table.specs.Sets.{has, past}
 
 -- at most 8 goals, different items of the graph
 pub record GoalsFit (N : Net) (goals : List ℕ) : Type 0 where
@@ -41,10 +43,10 @@ pub record NotedTo (N : Net) (cap : ℕ) (goals : List ℕ) (n : ℕ) (work : Li
 abbrev pub Noted : Net → ℕ → List ℕ → List ℕ → Type 0
 Noted N cap goals work = NotedTo N cap goals (length goals) work
 
--- the table's entries for the goals below n of a set: none for a goal that is not in it
+-- the table's entries for the goals of a set that are below n; nothing is said of an entry for a goal that is not in it
 abbrev pub SetAt : Net → ℕ → ℕ → List ℕ → ℕ → ℕ → List ℕ → Type 0
 SetAt N cap a goals S n work =
-    (i : ℕ) → i < n → getD work (1024 + S * 8 + i) 0 ≡ held cap (given (has S i) (past (graph N) (closed N) a goals (S - 2 ^ i) i))
+    (i : ℕ) → i < n → has S i ≡ true → getD work (1024 + S * 8 + i) 0 ≡ held cap (past (graph N) (closed N) a goals (S - 2 ^ i) i)
 
 -- the work once the rows are done and the table's entries for the sets below n
 pub record Filled (N : Net) (cap a : ℕ) (goals : List ℕ) (n : ℕ) (work : List ℕ) : Type 0 where
@@ -55,18 +57,17 @@ pub record Filled (N : Net) (cap a : ℕ) (goals : List ℕ) (n : ℕ) (work : L
   pub inside : (i : ℕ) → i < length goals → getD work (576 + i) 0 < N .nodes
   pub sets : (S : ℕ) → S < n → SetAt N cap a goals S (length goals) work
 
--- and the entries for the goals below i of the set n
+-- and the entries for the goals of the set n that are below i
 pub record FilledTo (N : Net) (cap a : ℕ) (goals : List ℕ) (n i : ℕ) (work : List ℕ) : Type 0 where
   pub filled : Filled N cap a goals n work
   pub set : SetAt N cap a goals n i work
 
 -- the work has what tells the least length over the goals of the set S to v
-pub record Asked (N : Net) (cap a : ℕ) (goals : List ℕ) (k S v : ℕ) (work : List ℕ) : Type 0 where
+pub record Asked (N : Net) (cap a : ℕ) (goals : List ℕ) (S v : ℕ) (work : List ℕ) : Type 0 where
   pub fit : GoalsFit N goals
   pub rowed : Rowed N cap a goals work
   pub set : SetAt N cap a goals S (length goals) work
-  pub counted : length goals ≡ k
-  pub few : S < 2 ^ k
+  pub few : S < 2 ^ length goals
   pub node : v < N .nodes
 
 -- room for the table, at most 8 goals, each entered at a node that a row has
@@ -74,6 +75,12 @@ pub record TableFits (k : ℕ) (work : List ℕ) : Type 0 where
   pub long : 3072 ≤ length work
   pub eight : k ≤ 8
   pub entries : (i : ℕ) → i < k → getD work (576 + i) 0 < 64
+
+-- room for the table's entries for the set S, each of its goals entered at a node that a row has
+pub record SetFits (S : ℕ) (work : List ℕ) : Type 0 where
+  pub long : 3072 ≤ length work
+  pub small : S < 256
+  pub entries : (i : ℕ) → has S i ≡ true → getD work (576 + i) 0 < 64
 
 -- the work outside the table is as it was
 pub record TableOnly (work after : List ℕ) : Type 0 where

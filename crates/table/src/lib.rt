@@ -1,5 +1,6 @@
 // An entry of the table over sets of goals: the least length of a walk that meets the goals of a set and has just met one of them.
 ghost use mathlib.Core.Path.{_≡_};
+ghost use mathlib.Core.Bool.{true};
 ghost use mathlib.Core.List.{List};
 ghost use Prim.Native.Nat.{ℕ, _+_, _*_, _^_, _≤_, _<_};
 ghost use lib.ListN.{length, getD};
@@ -7,8 +8,8 @@ ghost use Rattle.walks.specs.Lengths.{Least, some, plus, lesser as lesserOf};
 ghost use Rattle.walks.specs.Graph.{least as leastOf};
 ghost use Rattle.rows.specs.Held.{missing, held};
 ghost use Rattle.rows.specs.Net.{Net, graph, closed};
-ghost use Rattle.table.specs.Sets.{has as hasOf, chosen, past as pastOf};
-ghost use Rattle.table.specs.Table.{Filled, FilledTo, Asked, TableFits, TableOnly};
+ghost use Rattle.table.specs.Sets.{has, chosen};
+ghost use Rattle.table.specs.Table.{FilledTo, Asked, SetFits, TableOnly};
 use rows::MISSING;
 use rows::ROW_LENGTH;
 
@@ -43,12 +44,11 @@ pub fn bit(i: usize) -> u32
     1u32 << i
 }
 
-// Whether goal `i` is in the set.
-fn has(set: u32, i: usize) -> bool
-    requires { ⌜ i < 8 ⌝ }
-    ensures { λ r. ⌜ r ≡ hasOf set i ⌝ }
+// How many goals a set holds: the number of ones in its mark.
+fn held_goals(set: u32) -> u32
+    ensures { λ r. ⌜ ((goals : List ℕ) → set < 2 ^ length goals → r ≡ length (chosen goals set)) ⌝ }
 {
-    (set >> i) % 2 == 1
+    u32::count_ones(set)
 }
 
 // The lesser of `r` and the way on to `v` from goal `i` as the last goal of the set. The sum is taken in 64 bits, where what is missing adds up to more
@@ -65,44 +65,34 @@ fn better(work: &[u32], set: u32, i: usize, v: usize, r: u64) -> u64
     r
 }
 
-// The least length from the source to `v` that meets the goals of the set. How many goals a set holds is the number of ones in its mark.
-pub fn reach(work: &[u32], count: usize, set: u32, v: usize, cap: u32) -> u32
-    requires { ⌜ (3072 ≤ length (now work)) × (count ≤ 8) × (set < 256) × (v < 64) × (cap < missing) ⌝ }
-    ensures { λ r. ⌜ ((N : Net) (a : ℕ) (goals : List ℕ) → Asked N cap a goals count set v (now (work .entry)) → r ≡ held cap (leastOf (graph N) (closed N) (chosen goals set) a v)) ⌝ }
+// The least length from the source to `v` that meets the goals of the set, which holds at least one.
+pub fn reach(work: &[u32], set: u32, v: usize, cap: u32) -> u32
+    requires { ⌜ (3072 ≤ length (now work)) × (0 < set) × (set < 256) × (v < 64) × (cap < missing) ⌝ }
+    ensures { λ r. ⌜ ((N : Net) (a : ℕ) (goals : List ℕ) → Asked N cap a goals set v (now (work .entry)) → r ≡ held cap (leastOf (graph N) (closed N) (chosen goals set) a v)) ⌝ }
 {
-    if u32::count_ones(set) == 0 {
-        return work[v];
-    }
     let mut r = MISSING as u64;
-    let mut i = 0;
-    while i < count {
+    let mut rest = set;
+    while rest != 0 {
+        let i = u32::trailing_zeros(rest) as usize;
         r = better(work, set, i, v, r);
-        i += 1;
+        rest = rest & (rest - 1);
     }
     capped(r, cap)
 }
 
-// The length past goal `i`, the goals of the set `rest` met before it.
-fn past(work: &[u32], count: usize, rest: u32, i: usize, cap: u32) -> u32
-    requires { ⌜ TableFits count (now work) × (rest < 2 ^ count) × (i < count) × (cap < missing) ⌝ }
-    ensures { λ r. ⌜ ((N : Net) (a n : ℕ) (goals : List ℕ) → length goals ≡ count → rest < n → Filled N cap a goals n (now (work .entry)) → r ≡ held cap (pastOf (graph N) (closed N) a goals rest i)) ⌝ }
-{
-    let at = work[ENTRIES + i] as usize;
-    let before = reach(work, count, rest, at, cap);
-    goals::sum(before, work[OWN_LENGTHS + i], cap)
-}
-
-// Fills the table's entry for goal `i` as the last goal of the set. A goal that is not in the set is missing.
-pub fn put(work: &mut [u32], count: usize, set: u32, i: usize, cap: u32)
-    requires { ⌜ TableFits count (now work) × (set < 2 ^ count) × (i < count) × (cap < missing) ⌝ }
-    ensures { λ _. ⌜ ((N : Net) (a : ℕ) (goals : List ℕ) → length goals ≡ count → FilledTo N cap a goals set i (now (work .entry)) → FilledTo N cap a goals set (i + 1) (now (work .exit))) ⌝ }
+// Fills the table's entry for goal `i` of the set as the last one. A set of this goal alone is begun from the source's row, a larger one from the set
+// without the goal.
+pub fn put(work: &mut [u32], set: u32, i: usize, cap: u32)
+    requires { ⌜ SetFits set (now work) × (has set i ≡ true) × (cap < missing) ⌝ }
+    ensures { λ _. ⌜ ((N : Net) (a : ℕ) (goals : List ℕ) → set < 2 ^ length goals → FilledTo N cap a goals set i (now (work .entry)) → FilledTo N cap a goals set (i + 1) (now (work .exit))) ⌝ }
     ensures { λ _. ⌜ TableOnly (now (work .entry)) (now (work .exit)) ⌝ }
 {
-    if has(set, i) {
-        let rest = set - bit(i);
-        let x = past(work, count, rest, i, cap);
-        work[TABLE + set as usize * GOALS + i] = x;
+    let rest = set - bit(i);
+    let at = work[ENTRIES + i] as usize;
+    let way = if held_goals(set) == 1 {
+        work[at]
     } else {
-        work[TABLE + set as usize * GOALS + i] = MISSING;
-    }
+        reach(work, rest, at, cap)
+    };
+    work[TABLE + set as usize * GOALS + i] = goals::sum(way, work[OWN_LENGTHS + i], cap);
 }

@@ -1,13 +1,14 @@
 -- An item is opened, with the rows settled again: where no entry that matters is another, no walk fits that did not before; else the table tells.
 -- Assumes nothing.
-use Prim.Native.Nat.{ℕ, suc, _+_, _*_, _/_, _≤_, _<_}
+use Prim.Native.Nat.{ℕ, suc, _+_, _*_, _≤_, _<_}
 use mathlib.Core.Path.{_≡_, refl, sym, ap, _∙_, subst}
-use mathlib.Core.Logic.{_⊎_, inl, inr}
+use mathlib.Core.Logic.{_⊎_, inl, inr, ⊎-elim}
 use mathlib.Core.Bool.{Bool, true, false, not, true≢false}
 use mathlib.Core.List.{List, [], _∷_}
 use native.Mathlib.Omega.{arith}
-use lib.ListN.{length, getD, take, drop, set, length-set}
-use lib.Seq.{getD-take, getD-drop, take-take, set-set, set-getD}
+use native.Mathlib.Decide.{ℕ-discrete}
+use lib.ListN.{length, getD, take, set, length-set}
+use lib.Seq.{getD-take, take-take, set-set, set-getD}
 use lib.Dec.{leb}
 use borrow.Author.Tests.{eqb-true, lt-leb}
 use Rattle.lists.specs.Lists.{member}
@@ -22,11 +23,14 @@ use Rattle.rows.specs.Net.{Net, netOf, arcCount, Proper, Packed}
 use Rattle.rows.specs.Rows.{RowsAre, StartsFit}
 use Rattle.rows.proofs.ArcLaws.{item-at, entry-below}
 use Rattle.table.specs.Table.{GoalsFit, StartsAre, Rowed, Noted}
-use Rattle.lengths.proofs.PartLaws.{rowed-of, front-count, front-starts}
-use Rattle.reopen.proofs.RowsOpened.{rows-same}
-use Rattle.reopen.proofs.PackOpened.{packed-whole}
+use Rattle.lengths.proofs.PartLaws.{rowed-of, rows-of, front-count, front-starts}
+use Rattle.rows.specs.Bits.{bitOf}
+use Rattle.rows.proofs.BitLaws.{bit-small}
+use Rattle.rows.proofs.WorkLaws.{rows-same}
+use Rattle.kept.specs.Kept.{RowsBack}
 use Rattle.kept.specs.Unmoved.{Unmoved}
-use Rattle.reopen.specs.Openings.{Opened, Beside, Reopened}
+use Rattle.links.specs.Links.{Linked}
+use Rattle.reopen.specs.Openings.{Opened, ItemOpened}
 use Rattle.turns.specs.Turns.{Setting, fitsAt, Ready, Judged, State, Turned, Begun}
 use Rattle.turns.proofs.SameLaws.{Same, Alike, goals-same}
 
@@ -120,7 +124,7 @@ module _ {n : ℕ} {xs : List ℕ} {to cap : ℕ} {goals starts : List ℕ} (S :
           }
 
 -- the front of the work stays
-front-same : (n : ℕ) (work after : List ℕ) → take n after ≡ take n work → (j : ℕ) → j < n → getD after j 0 ≡ getD work j 0
+pub front-same : (n : ℕ) (work after : List ℕ) → take n after ≡ take n work → (j : ℕ) → j < n → getD after j 0 ≡ getD work j 0
 front-same n work after e j h = sym (getD-take n after j 0 h) ∙ ap (λ (l : List ℕ). getD l j 0) e ∙ getD-take n work j 0 h
 
 pub front-less : (work after : List ℕ) → take 1024 after ≡ take 1024 work → take 576 after ≡ take 576 work
@@ -144,57 +148,55 @@ opening S old i marks ys e m h P = record {
   nodes = set-nodes S;
 }
 
--- The three ways to the answer: nothing changed, nothing that matters changed, and the table was asked.
+-- The two ways to the answer: nothing that matters changed, and the table was asked.
 module _ {n : ℕ} {xs : List ℕ} {to cap : ℕ} {goals starts : List ℕ} (S : Setting n xs to cap goals starts) {old : List ℕ} {i : ℕ} {marks ys : List ℕ}
-    (O : Opened n xs old i marks ys starts) {work : List ℕ} (W : Ready n xs old cap goals starts work) where
-  inside : (j : ℕ) → j < length goals → entryOf (graphOf n xs) (getD goals j 0) < n
-  inside j h = entry-below (netOf n xs old) (getD goals j 0) (O .proper) (S .below j h)
+    (O : Opened n xs old i marks ys starts) {work : List ℕ} (W : Ready n xs old cap goals starts work) {mid : List ℕ} {kept : ℕ}
+    (I : ItemOpened n xs i cap marks ys starts work mid kept) where
+  rows : RowsAre (netOf n xs marks) cap starts (length starts) mid
+  rows = I .rows old O (W .rows)
+
+  -- each row is kept, or as it was
+  bit : (j : ℕ) → (bitOf kept j ≡ 1) ⊎ (bitOf kept j ≡ 0)
+  bit j = elim (ℕ-discrete (bitOf kept j) 1) [ yes q ↦ inl q | no q ↦ inr (omega (arith, bit-small kept j)) ]
 
   module _ (B : fitsAt n xs to cap goals starts old ≡ false) (away : (j : ℕ) → j < length goals → getD goals j 0 ≡ i → ⊥) where
-    pub judged-still : (after : List ℕ) → after ≡ work → RowsAre (netOf n xs marks) cap starts (length starts) work
-        → Judged n xs to cap goals starts old marks after true
-    judged-still after q R =
-        rw q (record {
-          answer =
-              fits-same S old i marks (O .opened) away work work (W .rows) R (S .target, λ j h. refl) (λ j h. (inside j h, λ k l. refl)) ∙ B;
-          opened = λ _. record { rows = R; noted = noted-same S old i marks (O .opened) away work work (λ j h k. refl) (W .noted) };
-          back = λ t. absurd (true≢false t);
-        })
+    noted : Noted (netOf n xs marks) cap goals mid
+    noted = noted-same S old i marks (O .opened) away work mid (λ j h k. I .saves .beside j (omega (arith, S .counted, S .eight)) (omega arith)) (W .noted)
 
-    pub judged-unmoved : (after : List ℕ) → Beside starts work after → Reopened n xs old marks cap starts after → Unmoved after (length starts) (length goals) to
-        → Judged n xs to cap goals starts old marks after true
-    judged-unmoved after b P U = record {
+    pub judged-unmoved : Unmoved mid (length starts) kept (length goals) to → Judged n xs to cap goals starts old marks mid true
+    judged-unmoved U = record {
       answer =
-          fits-same S old i marks (O .opened) away (drop 3072 after) after (P .kept) (P .rows) (S .target, λ j h. stays j to (U .target j h))
-          (λ k l. (inside k l, λ j h. stays j _ (rw (noted .entries k l) at (U .goals j h k l)))) ∙ B;
-      opened = λ _. record { rows = P .rows; noted = noted };
+          fits-same S old i marks (O .opened) away work mid (W .rows) rows (S .target, λ j h. stays j to (S .target) h (λ b. U j h b .target))
+          (λ k l. let e = inside k l in (e, λ j h. stays j _ e h (λ b. rw (noted .entries k l) at (U j h b .goals k l)))) ∙ B;
+      opened = λ _. record { rows = rows; noted = noted };
       back = λ t. absurd (true≢false t);
     }
       where
-        noted : Noted (netOf n xs marks) cap goals after
-        noted = noted-same S old i marks (O .opened) away work after (λ j h k. b j (omega (arith, S .counted, S .eight)) (omega arith)) (W .noted)
+        inside : (j : ℕ) → j < length goals → entryOf (graphOf n xs) (getD goals j 0) < n
+        inside j h = entry-below (netOf n xs old) (getD goals j 0) (O .proper) (S .below j h)
 
-        stays : (j b : ℕ) → getD after (3072 + j * 64 + b) 0 ≡ getD after (j * 64 + b) 0 → getD (drop 3072 after) (j * 64 + b) 0 ≡ getD after (j * 64 + b) 0
-        stays j b q =
-            let a : 3072 + (j * 64 + b) ≡ 3072 + j * 64 + b = omega arith in
-            getD-drop 3072 after (j * 64 + b) 0 ∙ ap (λ (k : ℕ). getD after k 0) a ∙ q
+        stays : (j b : ℕ) → b < n → j < length starts → (bitOf kept j ≡ 1 → getD mid (3072 + j * 64 + b) 0 ≡ getD mid (j * 64 + b) 0)
+            → getD work (j * 64 + b) 0 ≡ getD mid (j * 64 + b) 0
+        stays j b l h q =
+            let few = S .few in
+            ⊎-elim (λ o. sym (I .saves .copies j h o b (omega arith)) ∙ q o) (λ z. sym (I .saves .same j h z b (omega arith))) (bit j)
 
-  pub judged-asked : (mid after : List ℕ) (r : Bool) → Reopened n xs old marks cap starts mid
+  pub judged-asked : (after : List ℕ) (r : Bool)
       → (Rowed (netOf n xs marks) cap (getD starts 0 0) goals mid → fitsAt n xs to cap goals starts marks ≡ not r)
-      → (r ≡ true → Noted (netOf n xs marks) cap goals after × (take 576 after ≡ take 576 mid))
-      → (r ≡ false → (j : ℕ) → j < length starts * 64 → getD after j 0 ≡ getD mid (3072 + j) 0)
+      → (r ≡ true → Noted (netOf n xs marks) cap goals after × (take 576 after ≡ take 576 mid)) → (r ≡ false → RowsBack mid (length starts) kept after)
       → Judged n xs to cap goals starts old marks after r
-  judged-asked mid after r P a t f = record {
-    answer = a (rowed-of (length starts) (S .counted) (S .begin) (P .rows));
+  judged-asked after r a t f = record {
+    answer = a (rowed-of (length starts) (S .counted) (S .begin) rows);
     opened = λ q. record {
       rows =
           rows-same (netOf n xs marks) cap starts (length starts) mid after (S .few)
-          (λ j h. front-same 576 mid after (t q .1) j (omega (arith, S .counted, S .eight)))
-          (P .rows);
+          (λ j h. front-same 576 mid after (t q .1) j (omega (arith, S .counted, S .eight))) rows;
       noted = t q .0;
     };
-    back = λ q.
-        rows-same (netOf n xs old) cap starts (length starts) (drop 3072 mid) after (S .few) (λ j h. f q j h ∙ sym (getD-drop 3072 mid j 0)) (P .kept);
+    back = λ q j h v hv.
+        let few = S .few in
+        ⊎-elim (λ o. f q .back j h o v (omega arith) ∙ I .saves .copies j h o v (omega arith))
+        (λ z. f q .same j h z v (omega arith) ∙ I .saves .same j h z v (omega arith)) (bit j) ∙ W .rows j h v hv;
   }
 
 -- an item that was closed is closed again
@@ -217,36 +219,28 @@ module _ {n : ℕ} {xs : List ℕ} {to cap : ℕ} {goals starts marks : List ℕ
 
 module _ {n : ℕ} {xs : List ℕ} {to cap : ℕ} {goals starts marks packed : List ℕ} {c : ℕ} {work : List ℕ} (S : Setting n xs to cap goals starts)
     (T : State n xs marks to cap goals starts packed c work) (i : ℕ) where
-  again-proper : Proper (netOf n xs (set (set marks i 0) i 2))
-  again-proper = set-proper S (set (set marks i 0) i 2) (omega (arith, T .marked, length-set marks i 0, length-set (set marks i 0) i 2))
-
   pub entries-below : (j : ℕ) → j < length goals → getD work (576 + j) 0 < 64
   entries-below j h =
       let e = entry-below (netOf n xs marks) (getD goals j 0) (set-proper S marks (T .marked)) (S .below j h) in
       omega (arith, T .ready .noted .entries j h, S .few)
 
-  pub state-opened : {packed′ work′ : List ℕ} {c′ : ℕ} → length packed′ ≡ length packed → length work′ ≡ length work → c′ * 3 ≤ length packed
-      → Packed (netOf n xs (set marks i 0)) (take (c′ * 3) packed′) → Judged n xs to cap goals starts marks (set marks i 0) work′ true
-      → State n xs (set marks i 0) to cap goals starts packed′ c′ work′
-  state-opened l w r P J = record {
+  pub state-opened : {packed′ work′ : List ℕ} {c′ : ℕ} → length work′ ≡ length work → Linked (netOf n xs (set marks i 0)) c′ packed′
+      → Judged n xs to cap goals starts marks (set marks i 0) work′ true → State n xs (set marks i 0) to cap goals starts packed′ c′ work′
+  state-opened w L J = record {
     marked = omega (arith, T .marked, length-set marks i 0);
-    wide = l ∙ T .wide;
-    room = omega (arith, T .wide);
-    arcs = P;
+    links = L;
     long = w ∙ T .long;
     ready = J .opened refl;
     blocked = J .answer;
   }
 
-  pub state-listed : {packed′ mid work′ : List ℕ} {r : ℕ} → closedIn marks i ≡ true → length packed′ ≡ length packed → length work′ ≡ length work
-      → r ≤ length packed′ → Packed (netOf n xs (set (set marks i 0) i 2)) (take r packed′)
+  pub state-listed : {packed′ mid work′ : List ℕ} {c′ : ℕ} → closedIn marks i ≡ true → length work′ ≡ length work
+      → Linked (netOf n xs (set (set marks i 0) i 2)) c′ packed′
       → Judged n xs to cap goals starts marks (set marks i 0) mid false → Noted (netOf n xs (set (set marks i 0) i 2)) cap goals work′
-      → take 576 work′ ≡ take 576 mid → State n xs (set (set marks i 0) i 2) to cap goals starts packed′ (r / 3) work′
-  state-listed {packed′} {mid} {work′} {r} p l w h P J N e = record {
-    marked = again-proper .marked;
-    wide = l ∙ T .wide;
-    room = omega (arith, T .wide);
-    arcs = packed-whole packed′ r h P;
+      → take 576 work′ ≡ take 576 mid → State n xs (set (set marks i 0) i 2) to cap goals starts packed′ c′ work′
+  state-listed {packed′} {mid} {work′} p w L J N e = record {
+    marked = omega (arith, T .marked, length-set marks i 0, length-set (set marks i 0) i 2);
+    links = L;
     long = w ∙ T .long;
     ready = record {
       rows =
@@ -259,12 +253,11 @@ module _ {n : ℕ} {xs : List ℕ} {to cap : ℕ} {goals starts marks packed : L
   }
 
 -- ready for the first turn
-pub begun : {n : ℕ} {xs marks : List ℕ} {from to cap : ℕ} {goals ss packed : List ℕ} {r : ℕ} (mid : List ℕ) {work : List ℕ} → Proper (netOf n xs marks)
+pub begun : {n : ℕ} {xs marks : List ℕ} {from to cap : ℕ} {goals ss packed : List ℕ} {c : ℕ} (mid : List ℕ) {work : List ℕ} → Proper (netOf n xs marks)
     → GoalsFit (netOf n xs marks) goals → to < n → cap < missing → StartsAre (graphOf n xs) from goals ss → length goals < length ss
-    → length packed ≡ 1536 → r ≤ length packed → Packed (netOf n xs marks) (take r packed)
-    → RowsAre (netOf n xs marks) cap (take (length goals + 1) ss) (length (take (length goals + 1) ss)) mid → Noted (netOf n xs marks) cap goals work
-    → take 576 work ≡ take 576 mid → Begun n xs marks from to cap goals (take (length goals + 1) ss) packed (r / 3) work
-begun {n} {xs} {marks} {from} {to} {cap} {goals} {ss} {packed} {r} mid {work} p g t small S l w h P R N e = record {
+    → Linked (netOf n xs marks) c packed → Rowed (netOf n xs marks) cap from goals mid → Noted (netOf n xs marks) cap goals work
+    → take 576 work ≡ take 576 mid → Begun n xs marks from to cap goals (take (length goals + 1) ss) packed c work
+begun {n} {xs} {marks} {from} {to} {cap} {goals} {ss} mid {work} p g t small S l L R N e = record {
   setting = record {
     small = small;
     few = p .few;
@@ -277,12 +270,11 @@ begun {n} {xs} {marks} {from} {to} {cap} {goals} {ss} {packed} {r} mid {work} p 
     counted = count;
   };
   source = front .source;
-  room = omega arith;
-  arcs = packed-whole packed r h P;
+  links = L;
   ready = record {
     rows =
         rows-same (netOf n xs marks) cap (take (length goals + 1) ss) (length (take (length goals + 1) ss)) mid work (p .few)
-        (λ j k. front-same 576 mid work e j (omega (arith, count, g .eight))) R;
+        (λ j k. front-same 576 mid work e j (omega (arith, count, g .eight))) (rows-of count front R);
     noted = N;
   };
 }

@@ -1,14 +1,15 @@
 -- What holds while the items are gone through.
-use Prim.Native.Nat.{ℕ, _+_, _*_, _≤_, _<_}
+use Prim.Native.Nat.{ℕ, _+_, _≤_, _<_}
 use mathlib.Core.Path.{_≡_}
 use mathlib.Core.Bool.{Bool, true, false, not}
 use mathlib.Core.List.{List}
-use lib.ListN.{length, getD, take, set}
+use lib.ListN.{length, getD, set}
 use Rattle.lists.specs.Lists.{Distinct, pick, front}
 use Rattle.walks.specs.Flat.{graphOf}
 use Rattle.walks.specs.Graph.{closedIn, fits}
 use Rattle.rows.specs.Held.{missing}
-use Rattle.rows.specs.Net.{netOf, arcCount, Joins, Packed}
+use Rattle.rows.specs.Net.{netOf, arcCount, Joins}
+use Rattle.links.specs.Links.{Linked}
 use Rattle.rows.specs.Rows.{RowsAre}
 use Rattle.table.specs.Table.{StartsAre, Noted}
 
@@ -39,12 +40,10 @@ pub record Judged (n : ℕ) (xs : List ℕ) (to cap : ℕ) (goals starts old mar
   pub opened : r ≡ true → Ready n xs marks cap goals starts after
   pub back : r ≡ false → RowsAre (netOf n xs old) cap starts (length starts) after
 
--- what holds whenever the next item is taken: the open arcs are packed, the work is ready, and no walk fits
+-- what holds whenever the next item is taken: the open arcs are linked, the work is ready, and no walk fits
 pub record State (n : ℕ) (xs marks : List ℕ) (to cap : ℕ) (goals starts packed : List ℕ) (c : ℕ) (work : List ℕ) : Type 0 where
   pub marked : n + arcCount xs ≤ length marks
-  pub wide : length packed ≡ 1536
-  pub room : c * 3 ≤ 1536
-  pub arcs : Packed (netOf n xs marks) (take (c * 3) packed)
+  pub links : Linked (netOf n xs marks) c packed
   pub long : length work ≡ 3648
   pub ready : Ready n xs marks cap goals starts work
   pub blocked : fitsAt n xs to cap goals starts marks ≡ false
@@ -63,8 +62,7 @@ pub record PutDown (list : List ℕ) (n i : ℕ) (listed : Bool) (after : List �
 pub record Begun (n : ℕ) (xs marks : List ℕ) (from to cap : ℕ) (goals starts packed : List ℕ) (c : ℕ) (work : List ℕ) : Type 0 where
   pub setting : Setting n xs to cap goals starts
   pub source : getD starts 0 0 ≡ from
-  pub room : c * 3 ≤ 1536
-  pub arcs : Packed (netOf n xs marks) (take (c * 3) packed)
+  pub links : Linked (netOf n xs marks) c packed
   pub ready : Ready n xs marks cap goals starts work
 
 -- the items xs are written to the front of a list, and r is their count

@@ -2,18 +2,19 @@
 ghost use mathlib.Core.Path.{_≡_};
 ghost use mathlib.Core.Bool.{true, false, not};
 ghost use mathlib.Core.List.{List};
-ghost use Prim.Native.Nat.{ℕ, _+_, _*_, _≤_, _<_};
+ghost use Prim.Native.Nat.{ℕ, _+_, _≤_, _<_};
 ghost use lib.ListN.{length, getD, take, drop, set};
 ghost use Rattle.walks.specs.Flat.{graphOf};
 ghost use Rattle.walks.specs.Graph.{closedIn, fits};
 ghost use Rattle.rows.specs.Held.{missing};
-ghost use Rattle.rows.specs.Net.{netOf, arcCount, Proper, Packed};
+ghost use Rattle.rows.specs.Net.{netOf, arcCount, Proper};
+ghost use Rattle.kept.specs.Kept.{RowsBack};
+ghost use Rattle.links.specs.Links.{Linked, Shaped, takenOff};
 ghost use Rattle.table.specs.Table.{GoalsFit, Rowed, Noted};
 ghost use Rattle.turns.specs.Turns.{Setting, fitsAt, Ready, Judged, State, Turned};
 use lengths::Query;
 use reopen::Opening;
 use rows::FORBIDDEN;
-use rows::ROW_LENGTH;
 
 // Whether the item is one of the goals.
 fn is_goal(goals: &[usize], item: usize) -> bool
@@ -49,29 +50,35 @@ fn fits_limit(q: Query, arcs: &[u32], marks: &[u8], goals: &[usize], work: &mut 
     true
 }
 
-// Whether no walk meets the goals within the limit. Where one does, the `rows` rows that were kept are put back.
+// How many rows there are, and which of them are kept, one bit each.
+pub struct KeptRows {
+    pub rows: usize,
+    pub kept: u64,
+}
+
+// Whether no walk meets the goals within the limit. Where one does, the rows that were kept are put back.
 fn judge(
     q: Query,
+    k: KeptRows,
     arcs: &[u32],
     marks: &[u8],
     goals: &[usize],
-    rows: usize,
     work: &mut [u32],
 ) -> bool
     requires { ⌜ Proper (netOf (q .nodes) (now arcs) (now marks)) × GoalsFit (netOf (q .nodes) (now arcs) (now marks)) (now goals) ⌝ }
-    requires { ⌜ (length (now work) ≡ 3648) × (q .to < q .nodes) × (q .cap < missing) × (rows ≤ 9) ⌝ }
+    requires { ⌜ (length (now work) ≡ 3648) × (q .to < q .nodes) × (q .cap < missing) × (k .rows ≤ 9) ⌝ }
     ensures { λ r. ⌜ (Rowed (netOf (q .nodes) (now (arcs .entry)) (now (marks .entry))) (q .cap) (q .from) (now (goals .entry)) (now (work .entry)) → fits (graphOf (q .nodes) (now (arcs .entry))) (q .from) (q .to) (q .cap) (closedIn (now (marks .entry))) (now (goals .entry)) ≡ not r) ⌝ }
     ensures { λ r. ⌜ (r ≡ true → Noted (netOf (q .nodes) (now (arcs .entry)) (now (marks .entry))) (q .cap) (now (goals .entry)) (now (work .exit)) × (take 576 (now (work .exit)) ≡ take 576 (now (work .entry)))) ⌝ }
-    ensures { λ r. ⌜ (r ≡ false → (j : ℕ) → j < rows * 64 → getD (now (work .exit)) j 0 ≡ getD (now (work .entry)) (3072 + j) 0) ⌝ }
+    ensures { λ r. ⌜ (r ≡ false → RowsBack (now (work .entry)) (k .rows) (k .kept) (now (work .exit))) ⌝ }
 {
     if fits_limit(q, arcs, marks, goals, work) {
-        kept::restore(work, rows * ROW_LENGTH);
+        kept::put_back(work, k.rows, k.kept);
         return false;
     }
     true
 }
 
-// Whether no walk meets the goals within the limit once the item is opened, for the marks and the packed arcs with the item open. The rows are
+// Whether no walk meets the goals within the limit once the item is opened, for the marks and the linked arcs with the item open. The rows are
 // then those of the marks, and else as they were.
 fn blocked(
     o: Opening,
@@ -82,8 +89,8 @@ fn blocked(
     goals: &[usize],
     work: &mut [u32],
 ) -> bool
-    requires { ⌜ Setting (o .nodes) (now arcs) (o .to) (o .cap) (now goals) (now starts) ⌝ }
-    requires { ⌜ (o .nodes + arcCount (now arcs) ≤ length (now marks)) × (o .item < o .nodes + arcCount (now arcs)) × (length (now work) ≡ 3648) × Packed (netOf (o .nodes) (now arcs) (now marks)) (now packed) × ((i : ℕ) → i < length (now goals) → getD (now work) (576 + i) 0 < 64) × (length (now packed) ≤ 1536) ⌝ }
+    requires { ⌜ Setting (o .nodes) (now arcs) (o .to) (o .cap) (now goals) (now starts) × Linked (netOf (o .nodes) (now arcs) (now marks)) (o .count) (now packed) ⌝ }
+    requires { ⌜ (o .nodes + arcCount (now arcs) ≤ length (now marks)) × (o .item < o .nodes + arcCount (now arcs)) × (length (now work) ≡ 3648) × ((i : ℕ) → i < length (now goals) → getD (now work) (576 + i) 0 < 64) ⌝ }
     requires { ⌜ (o .goal ≡ false → (i : ℕ) → i < length (now goals) → getD (now goals) i 0 ≡ o .item → ⊥) ⌝ }
     ensures { λ r. ⌜ ((old : List ℕ) → now (marks .entry) ≡ set old (o .item) 0 → Ready (o .nodes) (now (arcs .entry)) old (o .cap) (now (goals .entry)) (now (starts .entry)) (now (work .entry)) → fitsAt (o .nodes) (now (arcs .entry)) (o .to) (o .cap) (now (goals .entry)) (now (starts .entry)) old ≡ false → Judged (o .nodes) (now (arcs .entry)) (o .to) (o .cap) (now (goals .entry)) (now (starts .entry)) old (now (marks .entry)) (now (work .exit)) r) ⌝ }
 {
@@ -95,19 +102,20 @@ fn blocked(
         to: o.to,
         cap: o.cap,
     };
-    if reopen::open_item(o, arcs, marks, packed, starts, work) {
-        if goal {
-            return judge(q, arcs, marks, goals, starts.len(), work);
-        }
-        if kept::moved(work, starts.len(), goals.len(), to) {
-            return judge(q, arcs, marks, goals, starts.len(), work);
-        }
-        return true;
+    let k = KeptRows {
+        rows: starts.len(),
+        kept: reopen::open_item(o, arcs, marks, packed, starts, work),
+    };
+    if goal {
+        return judge(q, k, arcs, marks, goals, work);
+    }
+    if kept::moved(work, k.rows, k.kept, goals.len(), to) {
+        return judge(q, k, arcs, marks, goals, work);
     }
     true
 }
 
-// An item whose turn it is, with `count` arcs packed; and what its turn gives: whether it is listed, and how many arcs are packed then.
+// An item whose turn it is, with `count` arcs linked; and what its turn gives: whether it is listed, and how many arcs are linked then.
 pub struct Turn {
     pub nodes: usize,
     pub item: usize,
@@ -119,6 +127,22 @@ pub struct Turn {
 pub struct Outcome {
     pub listed: bool,
     pub count: usize,
+}
+
+// The linked arcs once the item of the turn is closed again, with `count` of them linked while it was open.
+fn link_closed(t: Turn, count: usize, arcs: &[u32], marks: &[u8], packed: &mut [u32]) -> usize
+    requires { ⌜ Proper (netOf (t .nodes) (now arcs) (now marks)) × (length (now arcs) ≤ 1536) × Shaped count (now packed) × (t .count ≤ 512) ⌝ }
+    requires { ⌜ (t .nodes ≤ t .item → count ≡ t .count + 1 → Linked (netOf (t .nodes) (now arcs) (now marks)) (t .count) (takenOff (now packed) (t .count))) ⌝ }
+    ensures { λ r. ⌜ Linked (netOf (t .nodes) (now (arcs .entry)) (now (marks .entry))) r (now (packed .exit)) ⌝ }
+{
+    let before = t.count;
+    if t.item >= t.nodes {
+        if count == before + 1 {
+            links::take_off(packed, before);
+            return before;
+        }
+    }
+    links::pack_all(t.nodes, arcs, marks, packed)
 }
 
 // Takes an item's turn: one that is closed is opened, with those opened earlier also open and later ones still closed. If no walk then meets the
@@ -147,16 +171,16 @@ pub fn take_turn(
         };
     }
     marks[item] = 0;
-    let count = reopen::pack_opened(nodes, arcs, marks, packed, item, t.count);
-    let n = count * 3;
+    let count = links::pack_opened(nodes, arcs, marks, packed, item, t.count);
     let o = Opening {
         nodes: t.nodes,
         item: t.item,
         to: t.to,
         cap: t.cap,
         goal: is_goal(goals, item),
+        count,
     };
-    if blocked(o, arcs, marks, &packed[..n], starts, goals, work) {
+    if blocked(o, arcs, marks, packed, starts, goals, work) {
         return Outcome {
             listed: false,
             count,
@@ -166,6 +190,6 @@ pub fn take_turn(
     lengths::note_goals(nodes, arcs, marks, goals, work, cap);
     Outcome {
         listed: true,
-        count: arcs::pack(nodes, arcs, marks, packed) / 3,
+        count: link_closed(t, count, arcs, marks, packed),
     }
 }

@@ -51,7 +51,7 @@ returns c =
     let s = c .before .before .before .before .before in
     let r : l .c * 3 ≤ length (l .packed) = omega (arith, s .pre .1, l .inv .2) in
     let q : l .i ≡ arcCount (s .args .arcs .now) = omega arith in
-    (r, pack-done q r (l .inv .3))
+    (r, pack-done q r (l .inv .3), omega arith)
 
 pub pack-spec : {M : Type 1} → statement M
 pack-spec =

@@ -26,7 +26,7 @@ returns c =
     let s = c .before .before .before .before .before .before .before .before .before .before in
     let l = c .before .before .least in
     let m = c .before .before .before .before .before .closing in
-    (goals-fit (s .args .header) (s .args .arcs .now) (m .result) (s .args .goals .now) (s .args .reasons .now) (l .result) (s .pre .0 .limit) (m .ensures) (l .ensures .0), drop-more (l .last .1 .1 .1 .1 .0) (s .args .work .now) (l .ensures .1))
+    (goals-fit (s .args .header) (s .args .arcs .now) (m .result) (s .args .goals .now) (s .args .reasons .now) (l .result) (s .pre .0 .limit) (m .ensures) (l .ensures .0), drop-more (l .last .1 .1 .1 .1 .0) (s .args .work .now) (l .ensures .1 .1))
 
 pub fits-goals-spec : {M : Type 1} → statement M
 fits-goals-spec =

@@ -2,7 +2,7 @@
 use Prim.Native.Nat.{_≤_, _-_}
 use mathlib.Core.Path.{_≡_}
 use lib.ListN.{length}
-use Rattle.kept.proofs.CopyLaws.{Copied, copied-none, copied-more, copied-all}
+use Rattle.greedy.proofs.CopyLaws.{Copied, copied-none, copied-more, copied-all}
 use borrow.Author.Needs.{needs}
 use Rattle.greedy.proofs.copied.Statement.{statement}
 use Rattle.greedy.proofs.copied.Tie as tie

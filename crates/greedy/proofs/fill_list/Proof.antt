@@ -23,7 +23,7 @@ slice-aggregate-begin-2 : tie.Need-slice-aggregate-begin-2 Inv-loop μ-loop
 slice-aggregate-begin-2 c = search needs
 
 begin-requires : tie.Need-begin-requires Inv-loop μ-loop
-begin-requires c κs = let s = c .before .before .before .before .before .before .before .before .before in (s .pre .0, ((refl, refl, s .pre .1 .0 .0), (s .pre .1 .0 .2, s .pre .1 .0 .3, s .pre .1 .0 .4)))
+begin-requires c κs = let s = c .before .before .before .before .before .before .before .before .before in (s .pre .0, ((refl, refl, s .pre .1 .0 .0), (s .pre .1 .0 .2, s .pre .1 .0 .3, s .pre .1 .0 .4, s .pre .1 .1 .1)))
 
 add-rows : tie.Need-add-rows Inv-loop μ-loop
 add-rows c = search needs
@@ -40,11 +40,11 @@ loop-holds c =
       refl,
       refl,
       refl,
-      going-begun (s .args .list .now) (b .ensures) (s .pre .0 .0 .marked) (b .kept .1 .1 .1 .1 .0) (b .kept .1 .1 .1 .1 .1 .1 .0 ∙ s .pre .1 .0 .0) (s .pre .1 .1),
+      going-begun (s .args .list .now) (b .ensures) (s .pre .0 .0 .marked) (b .kept .1 .1 .1 .1 .1 .1 .0 ∙ s .pre .1 .0 .0) (s .pre .1 .1 .0),
     )
 
 slice-aggregate-take-turn : tie.Need-slice-aggregate-take-turn Inv-loop μ-loop
-slice-aggregate-take-turn c = sym (c .before .before .before .loop .inv .5 .state .wide)
+slice-aggregate-take-turn c = sym (c .before .before .before .loop .inv .5 .state .links .long)
 
 array-share-prefix-starts : tie.Need-array-share-prefix-starts Inv-loop μ-loop
 array-share-prefix-starts c = let s = c .before .before .before .before .before .before .before .before .before .before .before .before .before .before .before .before .before .before in omega (arith, c .before .before .before .before .before .before .before .before .begin .kept .1 .1 .1 .1 .1 .0, s .pre .0 .1 .eight)

@@ -8,7 +8,7 @@ use borrow.Author.Needs.{needs}
 use Rattle.lists.specs.Lists.{front}
 use Rattle.walks.specs.Flat.{graphOf}
 use Rattle.lengths.proofs.PartLaws.{drop-further}
-use Rattle.greedy.proofs.ListedLaws.{copied-fits, copied-reasons}
+use Rattle.greedy.proofs.ListedLaws.{copied-fits, copied-reasons, copied-rowed}
 use Rattle.greedy.proofs.list_reasons.Statement.{statement}
 use Rattle.greedy.proofs.list_reasons.Tie as tie
 
@@ -36,7 +36,10 @@ fill-list-requires c κs =
       ),
       (
         (length-take-le 3648 (s .args .work .now) (omega (arith, s .pre .1 .0 .0)), s .pre .1 .0 .1, s .pre .1 .0 .2, s .pre .1 .0 .3, s .pre .1 .0 .4),
-        copied-fits (s .args .marks .now) (k .result) (k .ensures .1) (graphOf (s .args .q .nodes) (s .args .arcs .now)) (s .args .q .from) (s .args .q .to) (s .args .q .cap) (s .args .goals .now) (s .pre .1 .1),
+        (
+          copied-fits (s .args .marks .now) (k .result) (k .ensures .1) (graphOf (s .args .q .nodes) (s .args .arcs .now)) (s .args .q .from) (s .args .q .to) (s .args .q .cap) (s .args .goals .now) (s .pre .1 .1 .0),
+          copied-rowed (s .args .marks .now) (k .result) (k .ensures .1) (s .args .q .nodes) (s .args .arcs .now) (s .args .q .cap) (s .args .q .from) (s .args .goals .now) (s .args .work .now) (p .few) (s .pre .0 .1 .eight) (s .pre .1 .1 .1),
+        ),
       ),
     )
 

@@ -4,9 +4,6 @@ use Rattle.required.proofs.HeldLaws.{drop-more}
 use borrow.Author.Needs.{needs}
 use Rattle.judge.proofs.fits_goals.Statement.{statement}
 use Rattle.judge.proofs.fits_goals.Tie as tie
-use Rattle.judge.proofs.fits_goals.Reads as reads
-use Rattle.judge.proofs.fits_goals.Lts as lts
-use Rattle.lengths.proofs.least.Reads as least-reads
 
 least-requires : tie.Need-least-requires
 least-requires c κs = search needs
@@ -18,7 +15,7 @@ returns : tie.Need-returns
 returns c =
     let s = c .before .before .before .before .before .before .before .before in
     let l = c .before .before .least in
-    (goals-fit (s .args .header) (s .args .arcs .now) (s .args .marks .now) (s .args .goals .now) (l .result) (s .pre .0 .limit) (l .ensures .0), drop-more (l .last .1 .1 .1 .1 .0) (s .args .work .now) (l .ensures .1))
+    (goals-fit (s .args .header) (s .args .arcs .now) (s .args .marks .now) (s .args .goals .now) (l .result) (s .pre .0 .limit) (l .ensures .0), (l .ensures .1 .0, drop-more (l .last .1 .1 .1 .1 .0) (s .args .work .now) (l .ensures .1 .1)))
 
 pub fits-goals-spec : {M : Type 1} → statement M
 fits-goals-spec = tie.close (tie.spec least-requires same-length returns)

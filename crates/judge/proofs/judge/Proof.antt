@@ -9,10 +9,6 @@ use Rattle.judge.proofs.JudgeLaws.{unmet-found, unmet-empty, judged-one
 use borrow.Author.Needs.{needs}
 use Rattle.judge.proofs.judge.Statement.{statement}
 use Rattle.judge.proofs.judge.Tie as tie
-use Rattle.judge.proofs.judge.Reads as reads
-use Rattle.judge.proofs.judge.Lts as lts
-use Rattle.judge.proofs.first_unmet.Reads as first-unmet-reads
-use Rattle.judge.proofs.judge_together.Reads as judge-together-reads
 
 mul-if1 : tie.Need-mul-if1
 mul-if1 c = search needs
@@ -24,7 +20,7 @@ returns : tie.Need-returns
 returns c =
     let s = c .before .before .before .before .before .before .before .before in
     let S = sheetOf (s .args .header) (s .args .arcs .now) (s .args .marks .now) in
-    (judged-one S _ (sym (target-fits (s .pre .0) _ (s .pre .0 .there (s .args .header .target) (s .pre .0 .whole .target))) ∙ lt-leb _ _ (c .if1 .taken)), refl)
+    (judged-one S _ (sym (target-fits (s .pre .0) _ (s .pre .0 .there (s .args .header .target) (s .pre .0 .whole .target))) ∙ lt-leb _ _ (c .if1 .taken)), (λ q. absurd (omega arith), refl))
 
 first-unmet-requires : tie.Need-first-unmet-requires
 first-unmet-requires c κs = search needs
@@ -44,7 +40,7 @@ returns-2 c =
     let S = sheetOf (s .args .header) (s .args .arcs .now) (s .args .marks .now) in
     let u = c .before .before .first-unmet in
     let f = unmet-found (s .pre .0 .whole) (u .result) (u .ensures) (c .if2 .taken) in
-    (judged-two S (u .result) (f .0) _ (some-walk (s .pre .0) (c .before .before .before .if1 .left)) (f .1) (take-suc-set (s .args .goals .now) 0 (u .result) (omega arith)), refl)
+    (judged-two S (u .result) (f .0) _ (some-walk (s .pre .0) (c .before .before .before .if1 .left)) (f .1) (take-suc-set (s .args .goals .now) 0 (u .result) (omega arith)), (λ q. absurd (omega arith), refl))
 
 judge-together-requires : tie.Need-judge-together-requires
 judge-together-requires c κs =

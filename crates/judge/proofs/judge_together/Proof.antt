@@ -10,10 +10,6 @@ use Rattle.judge.proofs.JudgeLaws.{required-fit, nothing-required, judg
 use borrow.Author.Needs.{needs}
 use Rattle.judge.proofs.judge_together.Statement.{statement}
 use Rattle.judge.proofs.judge_together.Tie as tie
-use Rattle.judge.proofs.judge_together.Reads as reads
-use Rattle.judge.proofs.judge_together.Lts as lts
-use Rattle.judge.proofs.fits_goals.Reads as fits-goals-reads
-use Rattle.required.proofs.required_nodes.Reads as required-nodes-reads
 
 required-nodes-requires : tie.Need-required-nodes-requires
 required-nodes-requires c κs = search needs
@@ -26,7 +22,7 @@ returns c =
     let s = c .before .before .before .before .before .before .before .before .before in
     let q = c .before .before .before .required-nodes in
     let S = sheetOf (s .args .header) (s .args .arcs .now) (s .args .marks .now) in
-    (judged-zero S _ (s .pre .1 .0) (s .pre .1 .1) (nothing-required S (s .pre .1 .0) (sym (q .ensures .0) ∙ c .if1 .taken)), refl)
+    (judged-zero S _ (s .pre .1 .0) (s .pre .1 .1) (nothing-required S (s .pre .1 .0) (sym (q .ensures .0) ∙ c .if1 .taken)), (λ q. absurd (omega arith), refl))
 
 slice-reshare-prefix-fits-goals : tie.Need-slice-reshare-prefix-fits-goals
 slice-reshare-prefix-fits-goals c = search needs
@@ -55,7 +51,7 @@ returns-2 c =
     let q = c .before .before .before .before .before .before .before .before .before .required-nodes in
     let f = c .before .before .before .fits-goals in
     let S = sheetOf (s .args .header) (s .args .arcs .now) (s .args .marks .now) in
-    (judged-zero S _ (s .pre .1 .0) (s .pre .1 .1) (ap (fitsSheet S) (sym (listed-front (required (sheetOf (s .args .header) (s .args .arcs .now) (s .args .marks .now))) (q .last .1 .1 .1 .0) (s .args .goals .now) (q .result) (q .ensures))) ∙ sym (f .ensures .0) ∙ c .if2 .taken), f .ensures .1)
+    (judged-zero S _ (s .pre .1 .0) (s .pre .1 .1) (ap (fitsSheet S) (sym (listed-front (required (sheetOf (s .args .header) (s .args .arcs .now) (s .args .marks .now))) (q .last .1 .1 .1 .0) (s .args .goals .now) (q .result) (q .ensures))) ∙ sym (f .ensures .0) ∙ c .if2 .taken), (λ q. absurd (omega arith), f .ensures .1 .1))
 
 same-length-4 : tie.Need-same-length-4
 same-length-4 c = search needs
@@ -71,7 +67,7 @@ returns-3 c =
     let S = sheetOf (s .args .header) (s .args .arcs .now) (s .args .marks .now) in (
       judged-three S (q .result) _ (s .pre .1 .0) (s .pre .1 .1) (ap (fitsSheet S) (sym (listed-front (required (sheetOf (s .args .header) (s .args .arcs .now) (s .args .marks .now))) (q .last .1 .1 .1 .0) (s .args .goals .now) (q .result) (q .ensures))) ∙ sym (f .ensures .0) ∙ c .if2 .left)
           (listed-front (required (sheetOf (s .args .header) (s .args .arcs .now) (s .args .marks .now))) (q .last .1 .1 .1 .0) (s .args .goals .now) (q .result) (q .ensures)) (omega (arith, q .ensures .0, s .pre .0 .0 .eight)),
-      f .ensures .1,
+      (λ _. f .ensures .1 .0, f .ensures .1 .1),
     )
 
 pub judge-together-spec : {M : Type 1} → statement M

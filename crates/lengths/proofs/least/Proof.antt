@@ -35,10 +35,15 @@ returns c =
     let f = c .before .before .before .before .fill-table in
     let N = netOf (s .args .q .nodes) (s .args .arcs .now) (s .args .marks .now) in
     let goals = s .args .goals .now in
-    let F = filled-begun (s .pre .0 .0) (s .pre .0 .1) (rowed-kept (s .pre .0 .0 .few) (s .pre .0 .1 .eight) (n .ensures .1 .0) (r .ensures .0)) (n .ensures .0) in (
-      c .reach-goals .ensures N (s .args .q .from) goals refl (s .pre .1 .2) (f .ensures .0 N (s .args .q .from) goals refl F),
-      f .ensures .1 .behind ∙ drop-further 592 3072 (n .last .1 .1 .1 .1 .0) (r .last .1 .1 .1 .1 .0) (omega arith) (n .ensures .1 .1)
-          ∙ drop-further 576 3072 (r .last .1 .1 .1 .1 .0) (s .args .work .now) (omega arith) (r .ensures .1),
+    let R = rowed-kept (s .pre .0 .0 .few) (s .pre .0 .1 .eight) (n .ensures .1 .0) (r .ensures .0) in
+    let F = filled-begun (s .pre .0 .0) (s .pre .0 .1) R (n .ensures .0) in
+    let G = f .ensures .0 N (s .args .q .from) goals refl F in (
+      c .reach-goals .ensures N (s .args .q .from) goals refl (s .pre .1 .2) G,
+      (
+        G .rowed,
+        f .ensures .1 .behind ∙ drop-further 592 3072 (n .last .1 .1 .1 .1 .0) (r .last .1 .1 .1 .1 .0) (omega arith) (n .ensures .1 .1)
+            ∙ drop-further 576 3072 (r .last .1 .1 .1 .1 .0) (s .args .work .now) (omega arith) (r .ensures .1),
+      ),
     )
 
 pub least-spec : {M : Type 1} → statement M

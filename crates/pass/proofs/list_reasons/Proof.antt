@@ -1,20 +1,17 @@
 -- `pass::list_reasons` meets its contract: the greedy list for the sheet's own limit. Assumes nothing.
 use native.Mathlib.Omega.{arith}
+use borrow.Author.Needs.{needs}
 use Rattle.sheet.specs.Sheet.{isForbidden}
 use Rattle.verdict.specs.Verdict.{fitsSheet, reasonsFor}
-use borrow.Author.Needs.{needs}
 use Rattle.pass.proofs.list_reasons.Statement.{statement}
 use Rattle.pass.proofs.list_reasons.Tie as tie
-use Rattle.pass.proofs.list_reasons.Reads as reads
-use Rattle.pass.proofs.list_reasons.Lts as lts
-use Rattle.greedy.proofs.list_reasons.Reads as list-reasons-reads
 
 list-reasons-requires : tie.Need-list-reasons-requires
 unfolding fitsSheet isForbidden
 list-reasons-requires c κs =
     let s = c .before .before .before .before .before .before .before in
     let w = s .pre .0 .0 in
-    ((w .proper, s .pre .0 .1, omega (arith, w .held .0, w .few), omega (arith, w .held .1, w .proper .few, w .few)), ((s .pre .1 .0, omega (arith, s .pre .1 .1, w .held .0, w .proper .few, w .few), w .source, w .target, omega (arith, w .limit)), s .pre .1 .2))
+    ((w .proper, s .pre .0 .1, omega (arith, w .held .0, w .few), omega (arith, w .held .1, w .proper .few, w .few)), ((s .pre .1 .0, omega (arith, s .pre .1 .1, w .held .0, w .proper .few, w .few), w .source, w .target, omega (arith, w .limit)), (s .pre .1 .2, s .pre .1 .3)))
 
 same-length : tie.Need-same-length
 same-length c = search needs

@@ -11,13 +11,6 @@ use Rattle.pass.proofs.AnswerLaws.{stands-slip, goals-fit, unmet, reaso
 use borrow.Author.Needs.{needs}
 use Rattle.pass.proofs.write_answer.Statement.{statement}
 use Rattle.pass.proofs.write_answer.Tie as tie
-use Rattle.pass.proofs.write_answer.Reads as reads
-use Rattle.pass.proofs.write_answer.Lts as lts
-use Rattle.fits.proofs.fill_rows.Reads as fill-rows-reads
-use Rattle.judge.proofs.judge.Reads as judge-reads
-use Rattle.pass.proofs.list_reasons.Reads as list-reasons-reads
-use Rattle.marking.proofs.write_stands.Reads as write-stands-reads
-use Rattle.slip.proofs.write_slip.Reads as write-slip-reads
 
 slice-aggregate-fill-rows : tie.Need-slice-aggregate-fill-rows
 slice-aggregate-fill-rows c = search needs
@@ -52,42 +45,56 @@ returns c =
     let j = c .before .before .before .before .before .before .before .before .before .before .judge in
     let w = c .before .before .write-stands in
     let e = stands-slip (s .pre .0) (j .result) (j .last .1 .1 .1 .1 .0) (j .ensures .0) (c .before .before .before .before .before .if1 .taken) in
-    (w .ensures .0 ∙ ap length e, (w .ensures .1 ∙ ap (λ (xs : List ℕ). front xs (s .args .slip .now)) e, j .ensures .1))
+    (w .ensures .0 ∙ ap length e, (w .ensures .1 ∙ ap (λ (xs : List ℕ). front xs (s .args .slip .now)) e, j .ensures .1 .1))
 
 array-share-prefix-goals : tie.Need-array-share-prefix-goals
 array-share-prefix-goals c = search needs
 
+slice-aggregate-ready-rows : tie.Need-slice-aggregate-ready-rows
+slice-aggregate-ready-rows c = let j = c .before .before .before .before .before .before .judge in sym (length-take-le (j .result .count) (j .last .1 .1 .1 .1 .0) (omega (arith, j .ensures .0 .count, j .kept .1 .1 .1 .1 .0)))
+
+ready-rows-requires : tie.Need-ready-rows-requires
+ready-rows-requires c κs =
+    let s = c .before .before .before .before .before .before .before .before .before .before .before .before .before .before .before .before .before .before in
+    let j = c .before .before .before .before .before .before .before .judge in
+    let n = c .before .before .if1 .left in
+    ((s .pre .0, goals-fit (s .pre .0) (j .result) (j .last .1 .1 .1 .1 .0) (j .ensures .0) n, omega (arith, s .pre .1, j .kept .1 .1 .1 .1 .1 .0)), j .ensures .1 .0)
+
+array-share-prefix-goals-2 : tie.Need-array-share-prefix-goals-2
+array-share-prefix-goals-2 c = search needs
+
 slice-aggregate-list-reasons : tie.Need-slice-aggregate-list-reasons
-slice-aggregate-list-reasons c = let j = c .before .before .before .before .before .before .judge in sym (length-take-le (j .result .count) (j .last .1 .1 .1 .1 .0) (omega (arith, j .ensures .0 .count, j .kept .1 .1 .1 .1 .0)))
+slice-aggregate-list-reasons c = let j = c .before .before .before .before .before .before .before .before .before .before .before .judge in sym (length-take-le (j .result .count) (j .last .1 .1 .1 .1 .0) (omega (arith, j .ensures .0 .count, j .kept .1 .1 .1 .1 .0)))
 
 slice-aggregate-list-reasons-2 : tie.Need-slice-aggregate-list-reasons-2
 slice-aggregate-list-reasons-2 c = search needs
 
 list-reasons-requires : tie.Need-list-reasons-requires
 list-reasons-requires c κs =
-    let s = c .before .before .before .before .before .before .before .before .before .before .before .before .before .before .before .before .before .before .before in
-    let j = c .before .before .before .before .before .before .before .before .judge in
-    let n = c .before .before .before .if1 .left in
-    ((s .pre .0, goals-fit (s .pre .0) (j .result) (j .last .1 .1 .1 .1 .0) (j .ensures .0) n), (omega (arith, s .pre .1, j .kept .1 .1 .1 .1 .1 .0), omega arith, unmet (s .pre .0) (j .result) (j .last .1 .1 .1 .1 .0) (j .ensures .0) n))
+    let s = c .before .before .before .before .before .before .before .before .before .before .before .before .before .before .before .before .before .before .before .before .before .before .before .before in
+    let j = c .before .before .before .before .before .before .before .before .before .before .before .before .before .judge in
+    let n = c .before .before .before .before .before .before .before .before .if1 .left in
+    let t = c .before .before .before .before .before .ready-rows in
+    ((s .pre .0, goals-fit (s .pre .0) (j .result) (j .last .1 .1 .1 .1 .0) (j .ensures .0) n), (omega (arith, s .pre .1, t .kept .1 .1 .1 .1 .1 .0, j .kept .1 .1 .1 .1 .1 .0), omega arith, unmet (s .pre .0) (j .result) (j .last .1 .1 .1 .1 .0) (j .ensures .0) n, t .ensures .0))
 
-array-share-prefix-goals-2 : tie.Need-array-share-prefix-goals-2
-array-share-prefix-goals-2 c = search needs
+array-share-prefix-goals-3 : tie.Need-array-share-prefix-goals-3
+array-share-prefix-goals-3 c = search needs
 
 slice-aggregate-write-slip : tie.Need-slice-aggregate-write-slip
-slice-aggregate-write-slip c = let j = c .before .before .before .before .before .before .before .before .before .before .before .before .before .before .judge in sym (length-take-le (j .result .count) (j .last .1 .1 .1 .1 .0) (omega (arith, j .ensures .0 .count, j .kept .1 .1 .1 .1 .0)))
+slice-aggregate-write-slip c = let j = c .before .before .before .before .before .before .before .before .before .before .before .before .before .before .before .before .before .before .before .judge in sym (length-take-le (j .result .count) (j .last .1 .1 .1 .1 .0) (omega (arith, j .ensures .0 .count, j .kept .1 .1 .1 .1 .0)))
 
 array-share-prefix-list : tie.Need-array-share-prefix-list
-array-share-prefix-list c = let s = c .before .before .before .before .before .before .before .before .before .before .before .before .before .before .before .before .before .before .before .before .before .before .before .before .before in let r = c .before .before .before .before .before .list-reasons in reasons-inside (s .pre .0) _ (r .last .1 .1 .1 .1 .1 .0) (r .result) (r .ensures .0) (r .kept .1 .1 .1 .1 .1 .0)
+array-share-prefix-list c = let s = c .before .before .before .before .before .before .before .before .before .before .before .before .before .before .before .before .before .before .before .before .before .before .before .before .before .before .before .before .before .before in let r = c .before .before .before .before .before .list-reasons in reasons-inside (s .pre .0) _ (r .last .1 .1 .1 .1 .1 .0) (r .result) (r .ensures .0) (r .kept .1 .1 .1 .1 .1 .0)
 
 slice-aggregate-write-slip-2 : tie.Need-slice-aggregate-write-slip-2
-slice-aggregate-write-slip-2 c = let s = c .before .before .before .before .before .before .before .before .before .before .before .before .before .before .before .before .before .before .before .before .before .before .before .before .before .before in let r = c .before .before .before .before .before .before .list-reasons in sym (length-take-le (r .result) (r .last .1 .1 .1 .1 .1 .0) (reasons-inside (s .pre .0) _ (r .last .1 .1 .1 .1 .1 .0) (r .result) (r .ensures .0) (r .kept .1 .1 .1 .1 .1 .0)))
+slice-aggregate-write-slip-2 c = let s = c .before .before .before .before .before .before .before .before .before .before .before .before .before .before .before .before .before .before .before .before .before .before .before .before .before .before .before .before .before .before .before in let r = c .before .before .before .before .before .before .list-reasons in sym (length-take-le (r .result) (r .last .1 .1 .1 .1 .1 .0) (reasons-inside (s .pre .0) _ (r .last .1 .1 .1 .1 .1 .0) (r .result) (r .ensures .0) (r .kept .1 .1 .1 .1 .1 .0)))
 
 write-slip-requires : tie.Need-write-slip-requires
 write-slip-requires c κs =
-    let s = c .before .before .before .before .before .before .before .before .before .before .before .before .before .before .before .before .before .before .before .before .before .before .before .before .before .before in
-    let j = c .before .before .before .before .before .before .before .before .before .before .before .before .before .before .before .judge in
+    let s = c .before .before .before .before .before .before .before .before .before .before .before .before .before .before .before .before .before .before .before .before .before .before .before .before .before .before .before .before .before .before .before in
+    let j = c .before .before .before .before .before .before .before .before .before .before .before .before .before .before .before .before .before .before .before .before .judge in
     let r = c .before .before .before .before .before .before .list-reasons in
-    slip-room (s .pre .0) (j .result) (j .last .1 .1 .1 .1 .0) (j .ensures .0) (c .before .before .before .before .before .before .before .before .before .before .if1 .left) _ (s .pre .2) _ (r .last .1 .1 .1 .1 .1 .0) (r .result) (r .ensures .0) (r .ensures .1 .0)
+    slip-room (s .pre .0) (j .result) (j .last .1 .1 .1 .1 .0) (j .ensures .0) (c .before .before .before .before .before .before .before .before .before .before .before .before .before .before .before .if1 .left) _ (s .pre .2) _ (r .last .1 .1 .1 .1 .1 .0) (r .result) (r .ensures .0) (r .ensures .1 .0)
 
 same-length-3 : tie.Need-same-length-3
 same-length-3 c = search needs
@@ -97,14 +104,14 @@ same-length-4 c = search needs
 
 returns-2 : tie.Need-returns-2
 returns-2 c =
-    let s = c .before .before .before .before .before .before .before .before .before .before .before .before .before .before .before .before .before .before .before .before .before .before .before .before .before .before .before .before .before in
-    let j = c .before .before .before .before .before .before .before .before .before .before .before .before .before .before .before .before .before .before .judge in
+    let s = c .before .before .before .before .before .before .before .before .before .before .before .before .before .before .before .before .before .before .before .before .before .before .before .before .before .before .before .before .before .before .before .before .before .before in
+    let j = c .before .before .before .before .before .before .before .before .before .before .before .before .before .before .before .before .before .before .before .before .before .before .before .judge in
+    let t = c .before .before .before .before .before .before .before .before .before .before .before .before .before .before .before .ready-rows in
     let r = c .before .before .before .before .before .before .before .before .before .list-reasons in
     let w = c .before .before .write-slip in
-    let n = c .before .before .before .before .before .before .before .before .before .before .before .before .before .if1 .left in
-    let e = ap slipBytes (named-slip (s .pre .0) (j .result) (j .last .1 .1 .1 .1 .0) (j .ensures .0) n _ (r .last .1 .1 .1 .1 .1 .0) (r .result) (r .ensures .0) (r .ensures .1 .0))
-    ∙ blames-slip (s .pre .0) (j .result) (j .last .1 .1 .1 .1 .0) (j .ensures .0) n in
-    (w .ensures .0 ∙ ap length e, (w .ensures .1 ∙ ap (λ (xs : List ℕ). front xs (s .args .slip .now)) e, r .ensures .1 .1 ∙ j .ensures .1))
+    let n = c .before .before .before .before .before .before .before .before .before .before .before .before .before .before .before .before .before .before .if1 .left in
+    let e = ap slipBytes (named-slip (s .pre .0) (j .result) (j .last .1 .1 .1 .1 .0) (j .ensures .0) n _ (r .last .1 .1 .1 .1 .1 .0) (r .result) (r .ensures .0) (r .ensures .1 .0)) ∙ blames-slip (s .pre .0) (j .result) (j .last .1 .1 .1 .1 .0) (j .ensures .0) n in
+    (w .ensures .0 ∙ ap length e, (w .ensures .1 ∙ ap (λ (xs : List ℕ). front xs (s .args .slip .now)) e, r .ensures .1 .1 ∙ t .ensures .1 ∙ j .ensures .1 .1))
 
 pub write-answer-spec : {M : Type 1} → statement M
 write-answer-spec =
@@ -121,10 +128,13 @@ write-answer-spec =
     same-length-2
     returns
     array-share-prefix-goals
+    slice-aggregate-ready-rows
+    ready-rows-requires
+    array-share-prefix-goals-2
     slice-aggregate-list-reasons
     slice-aggregate-list-reasons-2
     list-reasons-requires
-    array-share-prefix-goals-2
+    array-share-prefix-goals-3
     slice-aggregate-write-slip
     array-share-prefix-list
     slice-aggregate-write-slip-2

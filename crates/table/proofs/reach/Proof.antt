@@ -1,66 +1,74 @@
--- `table::reach` meets its contract. The loop's invariant: `r` stands for the least over the goals below `i` as the last one; the law of the last goal does the rest. Assumes nothing.
-use mathlib.Core.Path.{_≡_, subst}
+-- `table::reach` meets its contract. The loop's invariant: `rest` is the set without its goals below some k, and `r` stands for the least over those as the last
+-- one; the law of the last goal does the rest. Assumes nothing.
+use mathlib.Core.Path.{_≡_}
 use mathlib.Core.List.{List}
-use Prim.Native.Nat.{ℕ, _-_, _≤_}
+use Prim.Native.Nat.{ℕ, _+_, _-_, _<_}
 use native.Mathlib.Omega.{arith}
+use lib.Bits.{and-le-r}
+use lib.Count.{trailingZeros}
 use Rattle.walks.specs.Lengths.{some}
 use Rattle.rows.specs.Held.{held}
 use Rattle.rows.specs.Net.{Net, graph, closed}
-use Rattle.table.proofs.TableLaws.{reach-none, reach-more, reach-done, any-begun}
+use Rattle.table.proofs.RestLaws.{Rest, Next, rest-begun, rest-next, rest-more}
+use Rattle.table.proofs.SetLaws.{has-below}
+use Rattle.table.proofs.TableLaws.{reach-more, reach-done, any-begun}
 use Rattle.table.specs.Sets.{anyIn}
 use Rattle.table.specs.Table.{Asked}
 use Rattle.table.proofs.reach.Statement.{statement}
 use Rattle.table.proofs.reach.Tie as tie
 
 abbrev Inv-loop : tie.InvT-loop
-Inv-loop work count set v cap r₀ i₀ r i =
-    (i ≤ count)
-    × ((N : Net) (a : ℕ) (goals : List ℕ) → Asked N cap a goals count set v work → held cap (some r) ≡ held cap (anyIn (graph N) (closed N) a v goals set i))
+Inv-loop work set v cap r₀ rest₀ r rest =
+    (k : ℕ) × Rest set k rest
+    × ((N : Net) (a : ℕ) (goals : List ℕ) → Asked N cap a goals set v work → held cap (some r) ≡ held cap (anyIn (graph N) (closed N) a v goals set k))
 
 abbrev μ-loop : tie.MeasureT-loop
-μ-loop work count set v cap r₀ i₀ r i = count - i
-
-mul-result : tie.Need-mul-result Inv-loop μ-loop
-mul-result c = omega arith
-
-shared-slice-read-result : tie.Need-shared-slice-read-result Inv-loop μ-loop
-shared-slice-read-result c = omega arith
-
-returns : tie.Need-returns Inv-loop μ-loop
-returns c N a goals K = reach-none K (c .before .if1 .taken)
+μ-loop work set v cap r₀ rest₀ r rest = rest
 
 cast-r : tie.Need-cast-r Inv-loop μ-loop
 cast-r c = omega arith
 
 loop-holds : tie.Need-loop-holds Inv-loop μ-loop
-loop-holds c = let s = c .before .before in (omega arith, λ N a goals K. any-begun N (s .args .cap) a (s .args .v) (s .args .set) goals (s .pre .4))
+loop-holds c =
+    let s = c .before in
+    (0, rest-begun (s .args .set), λ N a goals K. any-begun N (s .args .cap) a (s .args .v) (s .args .set) goals (s .pre .4))
+
+-- the goal that a turn looks at
+next : (c : tie.In-loop Inv-loop μ-loop) → Next (c .before .before .before .args .set) (c .before .loop .inv .0) (trailingZeros 32 (c .before .loop .rest))
+next c = rest-next (c .before .loop .inv .1) (c .before .before .before .pre .2) (omega arith)
+
+next-small : (c : tie.In-loop Inv-loop μ-loop) → trailingZeros 32 (c .before .loop .rest) < 8
+next-small c = let s = c .before .before .before in has-below (s .args .set) (trailingZeros 32 (c .before .loop .rest)) 8 (s .pre .2) (next c .in-set)
+
+cast-i : tie.Need-cast-i Inv-loop μ-loop
+cast-i c = omega (arith, next-small c)
 
 better-requires : tie.Need-better-requires Inv-loop μ-loop
-better-requires c κs = let s = c .before .before .before .before in (s .pre .0, s .pre .2, omega arith, s .pre .3)
+better-requires c κs = let s = c .before .before .before in (s .pre .0, s .pre .2, next-small c, s .pre .3)
 
-add-i : tie.Need-add-i Inv-loop μ-loop
-add-i c = omega arith
+sub-rest : tie.Need-sub-rest Inv-loop μ-loop
+sub-rest c = omega arith
 
 loop-less : tie.Need-loop-less Inv-loop μ-loop
-loop-less c = omega arith
+loop-less c = let l = c .before .before .loop in omega (arith, and-le-r (l .rest) (l .rest - 1))
 
 loop-again : tie.Need-loop-again Inv-loop μ-loop
 loop-again c =
-    let s = c .before .before .before .before .before in
-    let l = c .before .before .loop in
-    (omega arith, λ N a goals K. reach-more K (l .i) (l .r) (c .better .result) (omega arith) (s .pre .4) (l .inv .1 N a goals K) (c .better .ensures))
+    let s = c .before .before .before .before in
+    let l = c .before .before .loop in (
+      trailingZeros 32 (l .rest) + 1,
+      rest-more (l .inv .1) (s .pre .2) (omega arith),
+      λ N a goals K. reach-more K (l .r) (c .better .result) (next (c .before)) (s .pre .4) (l .inv .2 N a goals K) (c .better .ensures),
+    )
 
 capped-requires : tie.Need-capped-requires Inv-loop μ-loop
 capped-requires c κs = tt
 
-returns-2 : tie.Need-returns-2 Inv-loop μ-loop
-returns-2 c N a goals K =
-    let s = c .before .before .before .before .before in
+returns : tie.Need-returns Inv-loop μ-loop
+returns c N a goals K =
+    let s = c .before .before .before .before in
     let l = c .before .before .loop in
-    let q : l .i ≡ s .args .count = omega arith in
-    reach-done K (l .r) (c .capped .result) (c .before .before .before .if1 .left)
-    (subst (λ (n : ℕ). held (s .args .cap) (some (l .r)) ≡ held (s .args .cap) (anyIn (graph N) (closed N) a (s .args .v) goals (s .args .set) n)) q (l .inv .1 N a goals K))
-    (c .capped .ensures)
+    reach-done K (l .r) (c .capped .result) (l .inv .1) (c .before .loop-test .left) (s .pre .1) (l .inv .2 N a goals K) (c .capped .ensures)
 
 pub reach-spec : {M : Type 1} → statement M
 reach-spec =
@@ -68,14 +76,12 @@ reach-spec =
     (tie.spec
     Inv-loop
     μ-loop
-    mul-result
-    shared-slice-read-result
-    returns
     cast-r
     loop-holds
+    cast-i
     better-requires
-    add-i
+    sub-rest
     loop-less
     loop-again
     capped-requires
-    returns-2)
+    returns)

@@ -1,14 +1,14 @@
 -- `turns::take_turn` meets its contract: an open item is passed, a closed one is opened, and where a walk fits then the marks, the arcs and the rows are as before. Assumes nothing.
 use Prim.Native.Nat.{_*_}
 use mathlib.Core.Path.{_≡_, refl, sym, _∙_}
+use mathlib.Core.Bool.{true}
 use native.Mathlib.Omega.{arith}
 use borrow.Author.Needs.{needs}
-use lib.ListN.{length-set}
-use lib.Seq.{length-take-le}
 use borrow.Author.Tests.{eq-eqb, ne-eqb}
+use lib.ListN.{length-set}
 use Rattle.walks.specs.Graph.{closedIn}
-use mathlib.Core.Bool.{true}
-use Rattle.turns.proofs.TurnLaws.{set-proper, set-goals, entries-below, turn-passed, turn-opened, turn-listed, state-opened, state-listed}
+use Rattle.links.proofs.LinkLaws.{linked-shaped}
+use Rattle.turns.proofs.TurnLaws.{set-proper, set-goals, entries-below, closed-again, turn-passed, turn-opened, turn-listed, state-opened, state-listed}
 use Rattle.turns.proofs.take_turn.Statement.{statement}
 use Rattle.turns.proofs.take_turn.Tie as tie
 
@@ -22,34 +22,18 @@ slice-write-marks : tie.Need-slice-write-marks
 slice-write-marks c = search needs
 
 pack-opened-requires : tie.Need-pack-opened-requires
-pack-opened-requires c κs = let s = c .before .before .before .before .before .before .before .before .before .before in (set-proper (s .pre .0 .0) _ (simp length-set (s .pre .1 .marked)), s .pre .0 .2, omega (arith, s .pre .0 .1, s .pre .1 .wide), omega (arith, s .pre .1 .room, s .pre .1 .wide))
-
-mul-n : tie.Need-mul-n
-mul-n c = search needs
+pack-opened-requires c κs = let s = c .before .before .before .before .before .before .before .before .before .before in (set-proper (s .pre .0 .0) _ (simp length-set (s .pre .1 .marked)), s .pre .0 .2, s .pre .0 .1, s .pre .1 .links .long)
 
 is-goal-requires : tie.Need-is-goal-requires
 is-goal-requires c κs = search needs
-
-slice-reshare-prefix-blocked : tie.Need-slice-reshare-prefix-blocked
-slice-reshare-prefix-blocked c = search needs
-
-slice-aggregate-blocked : tie.Need-slice-aggregate-blocked
-slice-aggregate-blocked c = let t = c .before .before .before .before .before .pack-opened in sym (length-take-le (t .result * 3) (t .last .1 .1 .1 .0) (omega (arith, t .ensures .0, t .kept .1 .1 .1 .0)))
 
 blocked-requires : tie.Need-blocked-requires
 blocked-requires c κs =
     let s = c .before .before .before .before .before .before .before .before .before .before .before .before .before .before .before .before .before in
     let t = c .before .before .before .before .before .before .pack-opened in (
-      s .pre .0 .0,
+      (s .pre .0 .0, t .ensures .opened (s .args .marks .now) refl (s .pre .1 .links)),
       (
-        (
-          simp length-set (s .pre .1 .marked),
-          s .pre .0 .2,
-          s .pre .1 .long,
-          t .ensures .1 (s .args .marks .now) refl (s .pre .1 .arcs),
-          entries-below (s .pre .0 .0) (s .pre .1) (s .args .t .item),
-          omega (arith, t .ensures .0, s .pre .1 .wide, t .kept .1 .1 .1 .0, length-take-le (t .result * 3) (t .last .1 .1 .1 .0) (omega (arith, t .ensures .0, t .kept .1 .1 .1 .0))),
-        ),
+        (simp length-set (s .pre .1 .marked), s .pre .0 .2, s .pre .1 .long, entries-below (s .pre .0 .0) (s .pre .1) (s .args .t .item)),
         c .before .before .before .is-goal .ensures,
       ),
     )
@@ -69,7 +53,7 @@ returns-2 c =
     let t = c .before .before .before .before .before .before .before .before .before .before .pack-opened in
     let p : closedIn (s .args .marks .now) (s .args .t .item) ≡ true = eq-eqb _ _ (c .before .before .before .before .before .before .before .before .before .before .before .before .before .if1 .left) in
     let J = rw (c .if2 .taken) at (c .before .before .before .blocked .ensures (s .args .marks .now) refl (s .pre .1 .ready) (s .pre .1 .blocked)) in
-    (turn-opened p J, state-opened (s .pre .0 .0) (s .pre .1) (s .args .t .item) (t .kept .1 .1 .1 .0) (c .before .before .before .blocked .kept .1 .1 .1 .1 .1 .1 .0) (t .ensures .0) (t .ensures .1 (s .args .marks .now) refl (s .pre .1 .arcs)) J)
+    (turn-opened p J, state-opened (s .pre .0 .0) (s .pre .1) (s .args .t .item) (c .before .before .before .blocked .kept .1 .1 .1 .1 .1 .1 .0) (t .ensures .opened (s .args .marks .now) refl (s .pre .1 .links)) J)
 
 slice-write-marks-2 : tie.Need-slice-write-marks-2
 slice-write-marks-2 c = let s = c .before .before .before .before .before .before .before .before .before .before .before .before .before .before .before .before .before .before .before .before .before in simp length-set (omega (arith, s .pre .1 .marked, s .pre .0 .2))
@@ -77,8 +61,19 @@ slice-write-marks-2 c = let s = c .before .before .before .before .before .befor
 note-goals-requires : tie.Need-note-goals-requires
 note-goals-requires c κs = let s = c .before .before .before .before .before .before .before .before .before .before .before .before .before .before .before .before .before .before .before .before .before .before .before in (set-proper (s .pre .0 .0) _ (simp length-set (s .pre .1 .marked)), set-goals (s .pre .0 .0) _, omega (arith, s .pre .1 .long, c .before .before .before .before .before .blocked .kept .1 .1 .1 .1 .1 .1 .0))
 
-pack-requires : tie.Need-pack-requires
-pack-requires c κs = let s = c .before .before .before .before .before .before .before .before .before .before .before .before .before .before .before .before .before .before .before .before .before .before .before .before .before .before .before .before in (set-proper (s .pre .0 .0) _ (simp length-set (s .pre .1 .marked)), omega (arith, s .pre .0 .1, s .pre .1 .wide, c .before .before .before .before .before .before .before .before .before .before .before .before .before .before .before .before .before .pack-opened .kept .1 .1 .1 .0))
+link-closed-requires : tie.Need-link-closed-requires
+link-closed-requires c κs =
+    let s = c .before .before .before .before .before .before .before .before .before .before .before .before .before .before .before .before .before .before .before .before .before .before .before .before .before .before .before .before in
+    let t = c .before .before .before .before .before .before .before .before .before .before .before .before .before .before .before .before .before .pack-opened in
+    let p : closedIn (s .args .marks .now) (s .args .t .item) ≡ true = eq-eqb _ _ (c .before .before .before .before .before .before .before .before .before .before .before .before .before .before .before .before .before .before .before .before .if1 .left) in (
+      (
+        set-proper (s .pre .0 .0) _ (simp length-set (s .pre .1 .marked)),
+        s .pre .0 .1,
+        linked-shaped (set-proper (s .pre .0 .0) _ (simp length-set (s .pre .1 .marked))) (t .ensures .opened (s .args .marks .now) refl (s .pre .1 .links)),
+        omega (arith, s .pre .1 .links .room),
+      ),
+      λ a b. rw (closed-again (s .args .marks .now) (s .args .t .item) p) (t .ensures .again (s .args .marks .now) refl (s .pre .1 .links) a b),
+    )
 
 same-length-4 : tie.Need-same-length-4
 same-length-4 c = search needs
@@ -92,14 +87,12 @@ same-length-6 c = search needs
 returns-3 : tie.Need-returns-3
 returns-3 c =
     let s = c .before .before .before .before .before .before .before .before .before .before .before .before .before .before .before .before .before .before .before .before .before .before .before .before .before .before .before .before .before .before .before in
-    let t = c .before .before .before .before .before .before .before .before .before .before .before .before .before .before .before .before .before .before .before .before .pack-opened in
     let b = c .before .before .before .before .before .before .before .before .before .before .before .before .before .blocked in
     let g = c .before .before .before .before .before .before .before .note-goals in
-    let k = c .before .before .pack in
     let p : closedIn (s .args .marks .now) (s .args .t .item) ≡ true = eq-eqb _ _ (c .before .before .before .before .before .before .before .before .before .before .before .before .before .before .before .before .before .before .before .before .before .before .before .if1 .left) in
     let J = rw (c .before .before .before .before .before .before .before .before .before .before .if2 .left) at (b .ensures (s .args .marks .now) refl (s .pre .1 .ready) (s .pre .1 .blocked)) in (
       turn-listed p J,
-      state-listed (s .pre .0 .0) (s .pre .1) (s .args .t .item) p (k .kept .1 .1 .1 .0 ∙ t .kept .1 .1 .1 .0) (g .kept .1 .1 .1 .1 .0 ∙ b .kept .1 .1 .1 .1 .1 .1 .0) (k .ensures .0) (k .ensures .1) J (g .ensures .0) (g .ensures .1 .0),
+      state-listed (s .pre .0 .0) (s .pre .1) (s .args .t .item) p (g .kept .1 .1 .1 .1 .0 ∙ b .kept .1 .1 .1 .1 .1 .1 .0) (c .before .before .link-closed .ensures) J (g .ensures .0) (g .ensures .1 .0),
     )
 
 pub take-turn-spec : {M : Type 1} → statement M
@@ -110,10 +103,7 @@ take-turn-spec =
     returns
     slice-write-marks
     pack-opened-requires
-    mul-n
     is-goal-requires
-    slice-reshare-prefix-blocked
-    slice-aggregate-blocked
     blocked-requires
     same-length
     same-length-2
@@ -121,7 +111,7 @@ take-turn-spec =
     returns-2
     slice-write-marks-2
     note-goals-requires
-    pack-requires
+    link-closed-requires
     same-length-4
     same-length-5
     same-length-6

@@ -1,0 +1,2 @@
+pub mod PackOpened
+pub mod LinkLaws
