@@ -13,9 +13,9 @@ use borrow.Author.Tests.{eqb-true, eqb-false}
 use Rattle.explain.proofs.ReasonLaws.{reasons-closed, reasons-valid, reasons-minimal}
 use Rattle.explain.specs.Reasons.{but}
 use Rattle.lists.proofs.MemberLaws.{member-head, member-cases, member-none}
-use Rattle.lists.proofs.TestLaws.{false-back, and-true, not-true, true-or-false, false-of}
+use Rattle.lists.proofs.TestLaws.{false-back, and-true, not-true, true-or-false}
 use Rattle.lists.specs.Lists.{member}
-use Rattle.sheet.proofs.MarkLaws.{required-is, is-required, open-is, is-open, is-mandatory}
+use Rattle.sheet.proofs.MarkLaws.{required-is, is-required, is-open, is-mandatory}
 use Rattle.sheet.proofs.SheetLaws.{good-mark}
 use Rattle.sheet.specs.Sheet.{Sheet, isForbidden, required, isOpen, markOf}
 use Rattle.sheet.specs.Slip.{Slip}
@@ -23,7 +23,7 @@ use Rattle.varint.specs.Varint.{got}
 use Rattle.verdict.proofs.AcceptedLaws.{accepted-good}
 use Rattle.verdict.proofs.Demand2.{verdict-in, marks-exact, refuses-is, is-refused}
 use Rattle.verdict.proofs.SlipOfPass.{pass-finishes}
-use Rattle.verdict.proofs.VerdictLaws.{one, Stands, stands-all, fits-fewer, refused-goals, VerdictIs, verdict-is, two, three, stands, pruned-mark, other-mark}
+use Rattle.verdict.proofs.VerdictLaws.{one, Stands, stands-all, fits-fewer, refused-goals, VerdictIs, verdict-is, two, three, stands, pruned-mark, forbidden-stays}
 use Rattle.verdict.specs.Accepted.{accepted}
 use Rattle.verdict.specs.Pass.{Refuses, EndsForbidden}
 use Rattle.verdict.specs.Verdict.{reasonsFor, fitsSheet, slipFor, Verdict, verdict, isPruned, newMark, passSlip}
@@ -127,9 +127,6 @@ stands-meets S T e s t z all d = fits-fewer T (required T) (required S) (λ g m.
 pruned-unmet : (S : Sheet) (i : ℕ) → isPruned S i ≡ true → fitsSheet S (i ∷ []) ≡ false
 unfolding isPruned
 pruned-unmet S i p = not-true (fitsSheet S (i ∷ [])) (and-true (isOpen S i) (not (fitsSheet S (i ∷ []))) p .1)
-
-forbidden-stays : (S : Sheet) (i : ℕ) → markOf S i ≡ 2 → newMark S i ≡ 2
-forbidden-stays S i e = other-mark S i (false-of (isOpen S i) (λ o. absurd (omega (arith, open-is S i o, e)))) ∙ e
 
 -- on a later sheet an item that no walk meets ends forbidden, or the round is refused
 blocked-ends : (sheet : List ℕ) (T : Sheet) (i : ℕ) → accepted sheet ≡ got T [] → i < itemCount (T .graph) → fitsSheet T (i ∷ []) ≡ false

@@ -1,5 +1,5 @@
 // Runs the lines of document 01, 'The sheet B and what it gives', through pass, reason and check, and prints what each gives. The work and the slip
-// are lent longer than asked for and filled before the call, so that what is left as found can be seen.
+// are lent longer than asked for and filled before the call, so that what is left as found can be seen. Then views of arcs.
 use libc::STDOUT_FILENO;
 
 // How many work numbers an operation asks for, and a few more; a slip longer than asked for.
@@ -146,6 +146,18 @@ fn show_reason_checked(name: &[u8], sheet: &[u8], item: u32, slip: &[u8]) {
     show_check(sheet, slip);
 }
 
+// Prints a line: the name, and the bytes of the arc's view.
+fn show_view(name: &[u8], sheet: &[u8], arc: u32) {
+    io::write_all(STDOUT_FILENO, name);
+    io::write_all(STDOUT_FILENO, b":");
+    let part = view::arc_view(sheet, arc);
+    if part.len() == 0 {
+        io::write_all(STDOUT_FILENO, b" empty");
+    }
+    print_bytes(part, part.len());
+    io::write_all(STDOUT_FILENO, b"\n");
+}
+
 // A slip slice of 1,199 bytes.
 fn show_short_slip() {
     io::write_all(STDOUT_FILENO, b"slip slice of 1,199:");
@@ -280,6 +292,44 @@ fn bounds() {
     );
 }
 
+// Views of arcs: with minutes of three groups, the next one, two with the same bytes.
+fn views() {
+    show_view(
+        b"Leg 1, minutes FF FF 03",
+        b"\x04\x05\x00\x03\x08\x00\x01\x04\x01\x03\xFF\xFF\x03\x00\x02\x03\x02\x03\x09\x01\x02\x01\x00\x00\x00\x00\x00\x00\x00\x00\x00",
+        1,
+    );
+    show_view(
+        b"Leg 2 behind it",
+        b"\x04\x05\x00\x03\x08\x00\x01\x04\x01\x03\xFF\xFF\x03\x00\x02\x03\x02\x03\x09\x01\x02\x01\x00\x00\x00\x00\x00\x00\x00\x00\x00",
+        2,
+    );
+    show_view(
+        b"Leg 0 of two alike",
+        b"\x02\x02\x00\x01\x08\x00\x01\x04\x00\x01\x04\x00\x00\x00\x00",
+        0,
+    );
+    show_view(
+        b"Leg 1 of two alike",
+        b"\x02\x02\x00\x01\x08\x00\x01\x04\x00\x01\x04\x00\x00\x00\x00",
+        1,
+    );
+}
+
+// Views that are empty: no such arc, and a sheet that is refused.
+fn empty_views() {
+    show_view(
+        b"Leg 5 of B",
+        b"\x04\x05\x00\x03\x08\x00\x01\x04\x01\x03\x04\x00\x02\x03\x02\x03\x09\x01\x02\x01\x00\x00\x00\x00\x00\x00\x00\x00\x00",
+        5,
+    );
+    show_view(
+        b"Leg 0 of B and one byte more",
+        b"\x04\x05\x00\x03\x08\x00\x01\x04\x01\x03\x04\x00\x02\x03\x02\x03\x09\x01\x02\x01\x00\x00\x00\x00\x00\x00\x00\x00\x00\x00",
+        0,
+    );
+}
+
 fn main() {
     starred_rounds();
     starred_refusals();
@@ -289,4 +339,6 @@ fn main() {
     large_sheets();
     bounds();
     show_short_slip();
+    views();
+    empty_views();
 }

@@ -1,32 +1,32 @@
--- Demand 2 on the operation: what a call of pass that answers 0 has written. Its contract says that a call gives and leaves `passed`, so each
--- statement here is one about every such call. Assumes nothing.
+-- Demand 2 on the operation: what a call of pass that answers 0 has written, and that `refused-again` and `refused-minimal` hold of the slip of a refused
+-- round. Its contract says that a call gives and leaves `passed`, so each statement here is one about every such call. Assumes nothing.
 use Prim.Native.Nat.{ℕ, _<_}
 use mathlib.Core.Path.{_≡_, refl, sym, ap, _∙_}
 use mathlib.Core.Logic.{_↔_}
 use mathlib.Core.Bool.{Bool, true, false}
 use mathlib.Core.List.{List, [], _∷_}
 use native.Mathlib.Omega.{arith}
-use lib.ListN.{length, take, drop}
+use lib.ListN.{length, drop}
 use lib.Seq.{take-at}
 use lib.Dec.{ltb}
 use Rattle.sheet.proofs.RefusalLaws.{taken-refuses}
 use Rattle.sheet.specs.Lent.{workNumbers}
 use Rattle.sheet.specs.Sheet.{Sheet, isOpen}
-use Rattle.sheet.specs.Slip.{Slip}
+use Rattle.sheet.specs.Slip.{Slip, readSlip}
 use Rattle.varint.specs.Varint.{Read, got, refuse, after}
 use Rattle.verdict.proofs.AcceptedLaws.{accepted-taken, accepted-got}
-use Rattle.verdict.proofs.Demand2.{Refusal, prune-exact, refuse-exact}
+use Rattle.verdict.proofs.Demand2.{Refusal, finished-is, verdict-in, prune-exact, refuse-exact, is-refused}
 use Rattle.verdict.proofs.VerdictLaws.{NoWalkOn}
 use Rattle.verdict.specs.Accepted.{accepted}
-use Rattle.verdict.specs.Pass.{finished, answerOf, outcome, lentEnough, passOn, passed, verdictIn, markIn, Refuses}
-use Rattle.verdict.specs.Verdict.{verdict, passSlip}
+use Rattle.verdict.specs.Pass.{finished, answerOf, outcome, lentEnough, passOn, passed, written, verdictIn, markIn, Refuses}
+use Rattle.verdict.specs.Verdict.{verdict, slipFor, passSlip}
 use Rattle.walks.specs.Graph.{itemCount}
 
 -- a call that answers 0: the sheet is accepted, and the stated slip stands in front
 pub record Finished (sheet work slip : List ℕ) : Type 0 where
   pub read : Sheet
   pub accepts : accepted sheet ≡ got read []
-  pub writes : passOn sheet ≡ finished (take (passed sheet work slip .length) (passed sheet work slip .slip))
+  pub writes : passOn sheet ≡ finished (written (passed sheet work slip))
 
 pub call-finished : (sheet work slip : List ℕ) → passed sheet work slip .number ≡ 0 → Finished sheet work slip
 unfolding passed lentEnough outcome passOn answerOf after
@@ -50,13 +50,25 @@ call-finished sheet work slip = go (ltb (length work) workNumbers) refl (ltb (le
 
 module _ (sheet work slip : List ℕ) (z : passed sheet work slip .number ≡ 0) where
   -- a call that answers 0 with verdict 0 has struck off an open item exactly when no walk through it keeps to the limit
-  pub call-prunes : verdictIn (take (passed sheet work slip .length) (passed sheet work slip .slip)) ≡ 0
+  pub call-prunes : verdictIn (written (passed sheet work slip)) ≡ 0
       → (S : Sheet) × (accepted sheet ≡ got S [])
-      × ((i : ℕ) → i < itemCount (S .graph) → isOpen S i ≡ true → (markIn (take (passed sheet work slip .length) (passed sheet work slip .slip)) i ≡ 2) ↔ NoWalkOn S (i ∷ []))
+      × ((i : ℕ) → i < itemCount (S .graph) → isOpen S i ≡ true → (markIn (written (passed sheet work slip)) i ≡ 2) ↔ NoWalkOn S (i ∷ []))
   call-prunes v =
       let f = call-finished sheet work slip z in
-      (f .read, f .accepts, prune-exact sheet (f .read) (f .accepts) (take (passed sheet work slip .length) (passed sheet work slip .slip)) (f .writes) v)
+      (f .read, f .accepts, prune-exact sheet (f .read) (f .accepts) (written (passed sheet work slip)) (f .writes) v)
 
   -- a call that answers 0 has refused the round exactly when a walk is missing
   pub call-refuses : (S : Sheet) × (accepted sheet ≡ got S []) × (((s : Slip) × Refuses sheet s) ↔ Refusal S)
   call-refuses = let f = call-finished sheet work slip z in (f .read, f .accepts, refuse-exact sheet (f .read) (f .accepts))
+
+  -- a call that answers 0 with another verdict has refused the round: what it left reads as the verdict, its goals and the reasons for them
+  pub call-refused : (verdictIn (written (passed sheet work slip)) ≡ 0 → ⊥)
+      → (S : Sheet) × (accepted sheet ≡ got S [])
+      × (readSlip (written (passed sheet work slip)) ≡ got (slipFor S (verdict S .number) (verdict S .goals)) [])
+      × Refuses sheet (slipFor S (verdict S .number) (verdict S .goals))
+  call-refused n =
+      let f = call-finished sheet work slip z in
+      let S = f .read in
+      let r = is-refused sheet S (f .accepts) (λ v. n (verdict-in sheet S (f .accepts) (written (passed sheet work slip)) (f .writes) ∙ v)) in
+      let e = finished-is (r .slip) (written (passed sheet work slip)) (sym (r .finishes) ∙ f .writes) in
+      (S, f .accepts, ap readSlip (sym e) ∙ r .says, r)

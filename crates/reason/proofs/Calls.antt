@@ -3,20 +3,23 @@
 use Prim.Native.Nat.{ℕ}
 use mathlib.Core.Path.{_≡_, refl, sym, ap, _∙_}
 use mathlib.Core.Bool.{Bool, true, false}
-use mathlib.Core.List.{List, []}
+use mathlib.Core.List.{List, [], _∷_}
 use native.Mathlib.Omega.{arith}
-use lib.ListN.{length, take, drop}
+use lib.ListN.{length, drop}
 use lib.Seq.{take-at}
 use lib.Dec.{ltb}
 use Rattle.sheet.proofs.RefusalLaws.{taken-refuses}
 use Rattle.sheet.specs.Lent.{workNumbers}
 use Rattle.sheet.specs.Sheet.{Sheet}
-use Rattle.sheet.specs.Slip.{Slip, readSlip}
+use Rattle.sheet.specs.Slip.{readSlip}
 use Rattle.varint.specs.Varint.{Read, got, refuse, after}
 use Rattle.verdict.proofs.AcceptedLaws.{accepted-taken, accepted-got}
+use Rattle.verdict.proofs.Demand2.{finished-is}
 use Rattle.verdict.specs.Accepted.{accepted}
-use Rattle.verdict.specs.Pass.{finished, answerOf, outcome, lentEnough}
+use Rattle.verdict.specs.Pass.{finished, answerOf, outcome, lentEnough, written}
+use Rattle.verdict.specs.Verdict.{slipFor}
 use Rattle.reason.proofs.SaidLaws.{item-late}
+use Rattle.blame.proofs.AnswerLaws.{reason-finished, reason-finishes}
 use Rattle.blame.specs.Later.{Explains}
 use Rattle.blame.specs.Reason.{reasonIn, reasonOn, reasoned}
 
@@ -24,7 +27,7 @@ use Rattle.blame.specs.Reason.{reasonIn, reasonOn, reasoned}
 pub record Finished (sheet work slip : List ℕ) (i : ℕ) : Type 0 where
   pub read : Sheet
   pub accepts : accepted sheet ≡ got read []
-  pub writes : reasonOn sheet i ≡ finished (take (reasoned sheet work slip i .length) (reasoned sheet work slip i .slip))
+  pub writes : reasonOn sheet i ≡ finished (written (reasoned sheet work slip i))
 
 pub call-finished : (sheet work slip : List ℕ) (i : ℕ) → reasoned sheet work slip i .number ≡ 0 → Finished sheet work slip i
 unfolding reasoned lentEnough outcome reasonOn answerOf after
@@ -46,8 +49,14 @@ call-finished sheet work slip i = go (ltb (length work) workNumbers) refl (ltb (
         absurd (omega (arith, t .0))
     go false p false q (got S rest) e z = on p q S (e ∙ ap (got S) (accepted-got sheet S rest e .1)) (reasonIn i S []) refl z
 
--- the slip that the call wrote has these goals and reasons
-pub call-explains : (sheet work slip : List ℕ) (i : ℕ) (s : Slip) → reasoned sheet work slip i .number ≡ 0
-    → readSlip (take (reasoned sheet work slip i .length) (reasoned sheet work slip i .slip)) ≡ got s [] → Explains sheet i s
-call-explains sheet work slip i s z e =
-    record { slip = take (reasoned sheet work slip i .length) (reasoned sheet work slip i .slip); finishes = call-finished sheet work slip i z .writes; says = e }
+-- what the call left reads as a 4, the item as its only goal, and the reasons for it
+pub call-explains : (sheet work slip : List ℕ) (i : ℕ) → reasoned sheet work slip i .number ≡ 0
+    → (S : Sheet) × (accepted sheet ≡ got S []) × (readSlip (written (reasoned sheet work slip i)) ≡ got (slipFor S 4 (i ∷ [])) [])
+    × Explains sheet i (slipFor S 4 (i ∷ []))
+call-explains sheet work slip i z =
+    let f = call-finished sheet work slip i z in
+    let S = f .read in
+    let k = reason-finished sheet S i (written (reasoned sheet work slip i)) (f .accepts) (f .writes) in
+    let x = reason-finishes sheet S i (f .accepts) (k .item) (k .stands) (k .pruned) in
+    let e = finished-is (x .slip) (written (reasoned sheet work slip i)) (sym (x .finishes) ∙ f .writes) in
+    (S, f .accepts, ap readSlip (sym e) ∙ x .says, x)

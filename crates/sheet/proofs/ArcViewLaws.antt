@@ -1,4 +1,5 @@
--- Arc view's bytes are a part of the sheet and read as the arc's three numbers; they are empty exactly where the sheet is refused or has no such arc.
+-- Arc view's bytes are the part of the sheet at their place and read as the arc's three numbers; they are empty exactly where the sheet is refused or
+-- has no such arc.
 -- Assumes nothing.
 use Prim.Native.Nat.{ℕ, zero, suc, _+_, _-_, _*_, _≤_, _<_}
 use mathlib.Core.Path.{_≡_, refl, sym, ap, _∙_, subst}
@@ -14,7 +15,7 @@ use Rattle.varint.proofs.VarintLaws.{Front, number-got, judged-front, after-fro
 use Rattle.varint.specs.Varint.{Read, got, after, readNumber, number, several, readGroups, refuse}
 use Rattle.walks.specs.Graph.{Graph, Arc, noArc, itemCount}
 use Rattle.sheet.proofs.SheetLaws.{Taken, several-got, got-taken, taken-got}
-use Rattle.sheet.specs.ArcView.{restOf, past, arcView, bytesOf, viewIn}
+use Rattle.sheet.specs.ArcView.{restOf, past, bytesOf, forArc, arcView, placeOf}
 use Rattle.sheet.specs.Reader.{arcMinutes, arcHead, readArc, readMark, readMarks, readArcs, readLimit, readTarget, readSource, readArcCount, readSheet, taken}
 use Rattle.sheet.specs.Sheet.{Sheet}
 
@@ -96,6 +97,7 @@ pub record Viewed (bs : List ℕ) (S : Sheet) (l : ℕ) : Type 0 where
   pub earlier : List ℕ
   pub later : List ℕ
   pub part : bs ≡ earlier ++ (arcView bs l ++ later)
+  pub place : length earlier ≡ placeOf bs l
   pub reads : readArc (S .graph .nodes) (arcView bs l) ≡ got (getD (S .graph .arcs) l noArc) []
 
 -- what k numbers leave is the end of the list
@@ -121,9 +123,9 @@ front-bytes n bs x rest p =
     let c : length bs - length rest ≡ length (p .front .bytes) = omega (arith, simp length-append at (ap length e)) in
     rw (p .ends, c) (ap (take (length (p .front .bytes))) e ∙ take-at (p .front .bytes) rest (length (p .front .bytes)) refl)
 
-view-taken : (bs : List ℕ) (S : Sheet) (l : ℕ) → taken bs ≡ got S [] → l < length (S .graph .arcs) → arcView bs l ≡ bytesOf 3 (past (5 + 3 * l) bs)
-unfolding arcView viewIn
-view-taken bs S l e h = rw (e, lt-ltb l (length (S .graph .arcs)) h)
+has-arc : {A : Type 0} (bs : List ℕ) (S : Sheet) (l : ℕ) (x y : A) → taken bs ≡ got S [] → l < length (S .graph .arcs) → forArc (taken bs) l x y ≡ x
+unfolding forArc
+has-arc bs S l x y e h = rw (e, lt-ltb l (length (S .graph .arcs)) h)
 
 -- no arc is read from nothing
 nothing : (n : ℕ) (x : Arc) → readArc n [] ≡ got x [] → ⊥
@@ -132,6 +134,7 @@ nothing n x e = let z : _≡_ {A = ℕ} 0 1 = cc in omega arith
 
 -- the view of an arc of a taken sheet is a part of the sheet, and reads as the arc's three numbers
 pub view-reads : (bs : List ℕ) (S : Sheet) (l : ℕ) → Taken bs S → l < length (S .graph .arcs) → Viewed bs S l
+unfolding arcView placeOf
 view-reads bs S l T h =
     let n = S .graph .nodes in
     let x = getD (S .graph .arcs) l noArc in
@@ -140,24 +143,26 @@ view-reads bs S l T h =
     let u : past (3 * l) (past 5 bs) ≡ here = sym (past-add 5 (3 * l) bs) in
     let q : readArc n here ≡ got x (past (3 + 3 * l) (past 5 bs)) = ap (readArc n) (sym u) ∙ arc-at n (length (S .graph .arcs)) l (past 5 bs) (S .graph .arcs) (s .0) h (s .1) in
     let p = arc-parts n here x (past (3 + 3 * l) (past 5 bs)) q in
-    let v : arcView bs l ≡ p .front .bytes = view-taken bs S l (got-taken bs S T) h ∙ front-bytes n here x (past (3 + 3 * l) (past 5 bs)) p in
+    let v : arcView bs l ≡ p .front .bytes = has-arc bs S l (bytesOf 3 here) [] (got-taken bs S T) h ∙ front-bytes n here x (past (3 + 3 * l) (past 5 bs)) p in
     let e = past-end (5 + 3 * l) bs in
+    let k : length (e .0) ≡ length bs - length here = omega (arith, simp length-append at (ap length (e .1))) in
     record {
       earlier = e .0;
       later = past (3 + 3 * l) (past 5 bs);
       part = e .1 ∙ ap (e .0 ++_) (p .front .parts ∙ ap (_++ past (3 + 3 * l) (past 5 bs)) (sym v));
+      place = k ∙ sym (has-arc bs S l (length bs - length here) 0 (got-taken bs S T) h);
       reads = ap (readArc n) (v ∙ sym (append-nil (p .front .bytes))) ∙ p .front .again [];
     }
 
 -- empty exactly when the sheet draws 3 to 13 or there is no such arc
 pub view-empty : (bs : List ℕ) (l : ℕ) → (arcView bs l ≡ []) ↔ ((S : Sheet) → Taken bs S → length (S .graph .arcs) ≤ l)
-unfolding arcView viewIn
+unfolding arcView forArc
 view-empty bs l = (λ e S T. forth e S T (ltb l (length (S .graph .arcs))) refl, λ h. back (taken bs) refl h)
   where
     forth : arcView bs l ≡ [] → (S : Sheet) → Taken bs S → (t : Bool) → ltb l (length (S .graph .arcs)) ≡ t → length (S .graph .arcs) ≤ l
     forth e S T true q = absurd (nothing (S .graph .nodes) (getD (S .graph .arcs) l noArc) (rw e at (view-reads bs S l T (ltb-true l (length (S .graph .arcs)) q) .reads)))
     forth e S T false q = ltb-false l (length (S .graph .arcs)) q
 
-    back : (r : Read Sheet) → taken bs ≡ r → ((S : Sheet) → Taken bs S → length (S .graph .arcs) ≤ l) → viewIn r bs l ≡ []
+    back : (r : Read Sheet) → taken bs ≡ r → ((S : Sheet) → Taken bs S → length (S .graph .arcs) ≤ l) → forArc r l (bytesOf 3 (past (5 + 3 * l) bs)) [] ≡ []
     back (refuse e) q h = refl
     back (got S rest) q h = rw (le-ltb l (length (S .graph .arcs)) (h S (taken-got bs S rest q .0)))

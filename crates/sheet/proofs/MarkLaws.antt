@@ -1,14 +1,14 @@
 -- Required nodes ascend, are nodes, and are mandatory or end a mandatory arc. Assumes nothing.
 use Prim.Native.Nat.{ℕ, _<_}
-use mathlib.Core.Path.{_≡_}
+use mathlib.Core.Path.{_≡_, sym, ap, _∙_}
 use mathlib.Core.Logic.{_⊎_, inl, inr}
-use mathlib.Core.Bool.{true, not, _&&_, _||_, false≢true}
+use mathlib.Core.Bool.{Bool, true, not, _&&_, _||_, false≢true}
 use mathlib.Core.List.{List, [], _∷_}
 use native.Mathlib.Omega.{arith}
 use lib.Dec.{eqb}
 use borrow.Author.Tests.{eqb-true, eqb-false, eq-eqb, ne-eqb}
 use Rattle.lists.proofs.AscendLaws.{keep-ascends, span-member, member-span}
-use Rattle.lists.proofs.MemberLaws.{member-head, member-tail, keep-member, member-keep}
+use Rattle.lists.proofs.MemberLaws.{member-head, member-tail, member-cases, member-none, keep-member, member-keep}
 use Rattle.lists.proofs.Pigeonhole.{Below, below-all}
 use Rattle.lists.proofs.TestLaws.{and-true, true-and, or-true, true-or, not-true}
 use Rattle.lists.specs.Lists.{member, ascends}
@@ -46,6 +46,24 @@ ends-mandatory S p (l ∷ ls) e =
         let s = and-true (isMandatory S (arcItem (S .graph) l)) (eqb (tailOf (S .graph) l) p || eqb (headOf (S .graph) l) p) q in
         (l, member-head l ls, s .0, end (or-true (eqb (tailOf (S .graph) l) p) (eqb (headOf (S .graph) l) p) (s .1)))
     go (inr q) ih = let f = ih q in (f .0, member-tail (f .0) l ls (f .1), f .2, f .3)
+
+-- and the other way: a mandatory arc of the list makes its ends such nodes
+pub is-end : (S : Sheet) (p l : ℕ) (ls : List ℕ) → member l ls ≡ true → isMandatory S (arcItem (S .graph) l) ≡ true
+    → (tailOf (S .graph) l ≡ p) ⊎ (headOf (S .graph) l ≡ p) → endsMandatory S p ls ≡ true
+unfolding endsMandatory
+is-end S p l [] h m e = absurd (member-none l h)
+is-end S p l (k ∷ ls) h m e = go (member-cases l k ls h) (λ h. is-end S p l ls h m e)
+  where
+    end : (tailOf (S .graph) l ≡ p) ⊎ (headOf (S .graph) l ≡ p) → (eqb (tailOf (S .graph) l) p || eqb (headOf (S .graph) l) p) ≡ true
+    end (inl q) = rw (eq-eqb (tailOf (S .graph) l) p q)
+    end (inr q) = true-or (eqb (tailOf (S .graph) l) p) (eqb (headOf (S .graph) l) p) (eq-eqb (headOf (S .graph) l) p q)
+
+    here : ℕ → Bool
+    here k = isMandatory S (arcItem (S .graph) k) && (eqb (tailOf (S .graph) k) p || eqb (headOf (S .graph) k) p)
+
+    go : (l ≡ k) ⊎ (member l ls ≡ true) → (member l ls ≡ true → endsMandatory S p ls ≡ true) → (here k || endsMandatory S p ls) ≡ true
+    go (inl q) ih = let t : here k ≡ true = ap here (sym q) ∙ true-and m (end e) in rw t
+    go (inr q) ih = true-or (here k) (endsMandatory S p ls) (ih q)
 
 -- required nodes ascend
 pub required-ascend : (S : Sheet) → ascends (required S) ≡ true

@@ -1,4 +1,4 @@
--- Arc view (document 01: leg view): the part of a sheet that holds an arc's three numbers.
+-- Arc view (document 01: leg view): the part of a sheet that holds an arc's three numbers, and where it stands.
 use Prim.Native.Nat.{ℕ, zero, suc, _+_, _-_, _*_}
 use mathlib.Core.List.{List, []}
 use lib.ListN.{length, take}
@@ -21,11 +21,15 @@ past (suc k) bs = past k (restOf (readNumber bs))
 unfoldable pub bytesOf : ℕ → List ℕ → List ℕ
 bytesOf k bs = take (length bs - length (past k bs)) bs
 
--- five numbers and three for each earlier arc stand before those of arc l
-unfoldable pub viewIn : Read Sheet → List ℕ → ℕ → List ℕ
-viewIn (got S rest) bs l = pick (ltb l (length (S .graph .arcs))) (bytesOf 3 (past (5 + 3 * l) bs)) []
-viewIn (refuse e) bs l = []
+-- the first where the sheet was taken and has arc l, the second where it draws 3 to 13 or has no such arc
+unfoldable pub forArc : {A : Type 0} → Read Sheet → ℕ → A → A → A
+forArc (got S rest) l x y = pick (ltb l (length (S .graph .arcs))) x y
+forArc (refuse e) l x y = y
 
--- empty where the sheet draws 3 to 13 or has no such arc
+-- the bytes of arc l's three numbers: five numbers and three for each earlier arc stand before them
 unfoldable pub arcView : List ℕ → ℕ → List ℕ
-arcView bs l = viewIn (taken bs) bs l
+arcView bs l = forArc (taken bs) l (bytesOf 3 (past (5 + 3 * l) bs)) []
+
+-- how many bytes of the sheet stand before them; an empty view stands at the sheet's front
+unfoldable pub placeOf : List ℕ → ℕ → ℕ
+placeOf bs l = forArc (taken bs) l (length bs - length (past (5 + 3 * l) bs)) 0

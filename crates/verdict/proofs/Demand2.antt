@@ -1,7 +1,7 @@
 -- Demand 2, over bytes, for every sheet that draws none of 3 to 14. Each statement speaks of walks, and of the slip that pass writes.
 -- Assumes nothing.
 use Prim.Native.Nat.{ℕ, _≤_, _<_}
-use mathlib.Core.Path.{_≡_, refl, sym, ap, _∙_}
+use mathlib.Core.Path.{_≡_, refl, sym, ap, _∙_, subst}
 use mathlib.Core.Logic.{_⊎_, inl, inr, _↔_}
 use mathlib.Core.Bool.{Bool, true, false, _||_, true≢false}
 use mathlib.Core.List.{List, [], _∷_}
@@ -16,7 +16,7 @@ use Rattle.lists.specs.Lists.{member}
 use Rattle.sheet.proofs.MarkLaws.{required-is, is-required}
 use Rattle.sheet.proofs.SlipLaws.{slip-back}
 use Rattle.sheet.specs.Good.{Good}
-use Rattle.sheet.specs.Sheet.{Sheet, isOpen, isMandatory, isForbidden, allNodes, allArcs, endsMandatory, required}
+use Rattle.sheet.specs.Sheet.{Sheet, markOf, isOpen, isMandatory, isForbidden, allNodes, allArcs, endsMandatory, required}
 use Rattle.sheet.specs.Slip.{readSlip, Slip, as17}
 use Rattle.varint.proofs.VarintLaws.{got-both}
 use Rattle.varint.specs.Varint.{got, number, judged, readNumber, readGroups, lastGroup, after}
@@ -26,12 +26,13 @@ use Rattle.walks.proofs.LeastLaw.{fit-walk, walk-fit}
 use Rattle.walks.specs.Graph.{itemCount, items, fit, meets}
 use Rattle.walks.specs.Walk.{Walk}
 use Rattle.verdict.proofs.AcceptedLaws.{accepted-got, accepted-good}
-use Rattle.verdict.proofs.RouteLaws.{route-stands, route-clear, route-meets}
+use Rattle.verdict.proofs.ForcedLaws.{forced-is, is-forced, forced-met}
+use Rattle.verdict.proofs.RouteLaws.{route-stands, route-left, left-route}
 use Rattle.verdict.proofs.SlipOfPass.{PassSlipIs, marks, blames, pass-slip-is, pass-finishes, pass-verdict-in, pass-mark-in}
-use Rattle.verdict.proofs.VerdictLaws.{NoWalkOn, sheet-none, none-sheet, stands-all, all-stands, pruned-mark, VerdictIs, verdict-is, one, two, three, stands}
+use Rattle.verdict.proofs.VerdictLaws.{NoWalkOn, sheet-none, none-sheet, stands-all, all-stands, pruned-mark, other-mark, mark-forced, forced-mark, verdict-low, VerdictIs, verdict-is, one, two, three, stands}
 use Rattle.verdict.specs.Accepted.{accepted}
-use Rattle.verdict.specs.Pass.{finished, passOn, verdictIn, markIn, Refuses}
-use Rattle.verdict.specs.Route.{Route, demandedNodes}
+use Rattle.verdict.specs.Pass.{finished, passOn, verdictIn, markIn, marksIn, Refuses}
+use Rattle.verdict.specs.Route.{Route, demandedNodes, marked, Forced}
 use Rattle.verdict.specs.Verdict.{verdict, newMark, slipFor, passSlip, Verdict, newMarks}
 
 -- the round is refused when a walk is missing for one mandatory mark, or for all mandatory nodes and ends of mandatory arcs together
@@ -97,7 +98,7 @@ no-marks : (ms : List ℕ) (s : Slip) → readSlip (0 ∷ ms) ≡ got s [] → �
 unfolding readSlip number judged readNumber readGroups lastGroup after as17
 no-marks ms s e = let z : _≡_ {A = ℕ} 0 1 = cc in omega arith
 
-finished-is : (xs ys : List ℕ) → finished xs ≡ finished ys → xs ≡ ys
+pub finished-is : (xs ys : List ℕ) → finished xs ≡ finished ys → xs ≡ ys
 finished-is xs ys e = cc
 
 module _ (sheet : List ℕ) (S : Sheet) (a : accepted sheet ≡ got S []) where
@@ -118,6 +119,13 @@ module _ (sheet : List ℕ) (S : Sheet) (a : accepted sheet ≡ got S []) where
   pub marks-exact : (slip : List ℕ) → passOn sheet ≡ finished slip → verdictIn slip ≡ 0 → (i : ℕ) → i < itemCount (S .graph) → markIn slip i ≡ newMark S i
   marks-exact slip e z i h = rw (← (slip-is slip e)) (pass-mark-in S good few (sym (verdict-in slip e) ∙ z) i h)
 
+  marks-left : (slip : List ℕ) → passOn sheet ≡ finished slip → verdictIn slip ≡ 0 → marksIn slip ≡ newMarks S
+  marks-left slip e z = go (passSlip S (verdict S)) (pass-slip-is S good few) (slip-is slip e)
+    where
+      go : (bs : List ℕ) → PassSlipIs S bs → bs ≡ slip → marksIn slip ≡ newMarks S
+      go bs (marks v) q = ap marksIn (sym q)
+      go bs (blames l b) q = absurd (omega (arith, l, sym (verdict-in slip e) ∙ z))
+
   -- Unless the round is refused, an open item is pruned exactly when no walk from source to target through it, clear of everything forbidden,
   -- keeps to the limit.
   pub prune-exact : (slip : List ℕ) → passOn sheet ≡ finished slip → verdictIn slip ≡ 0 → (i : ℕ) → i < itemCount (S .graph) → isOpen S i ≡ true
@@ -136,11 +144,12 @@ module _ (sheet : List ℕ) (S : Sheet) (a : accepted sheet ≡ got S []) where
           (λ z. absurd (omega (arith, l, z)), sym (got-both (slipFor S (verdict S .number) (verdict S .goals)) s [] [] (sym (slip-back (slipFor S (verdict S .number) (verdict S .goals)) b) ∙ q) .0))
 
   pub is-refused : (verdict S .number ≡ 0 → ⊥) → Refuses sheet (slipFor S (verdict S .number) (verdict S .goals))
+  unfolding slipFor
   is-refused n = go (passSlip S (verdict S)) (pass-slip-is S good few) (pass-finishes sheet S a)
     where
       go : (bs : List ℕ) → PassSlipIs S bs → passOn sheet ≡ finished bs → Refuses sheet (slipFor S (verdict S .number) (verdict S .goals))
       go bs (marks e) q = absurd (n e)
-      go bs (blames l b) q = record { slip = bs; finishes = q; says = slip-back (slipFor S (verdict S .number) (verdict S .goals)) b }
+      go bs (blames l b) q = record { slip = bs; finishes = q; says = slip-back (slipFor S (verdict S .number) (verdict S .goals)) b; low = l; high = verdict-low S }
 
   -- A round is refused exactly when such a walk is missing for one mandatory mark, or for all mandatory nodes and ends of mandatory arcs together.
   pub refuse-exact : ((s : Slip) × Refuses sheet s) ↔ Refusal S
@@ -149,13 +158,28 @@ module _ (sheet : List ℕ) (S : Sheet) (a : accepted sheet ≡ got S []) where
     λ r. (slipFor S (verdict S .number) (verdict S .goals), is-refused (is-refusal S r)),
   )
 
-  -- So no simple route that obeys the marks is lost: the round stands, the route is clear of what the pass forbids and meets what it makes mandatory.
-  pub route-kept : (w : List ℕ) → Route S w
-      → (slip : List ℕ) × (passOn sheet ≡ finished slip) × (verdictIn slip ≡ 0)
-      × ((i : ℕ) → i < itemCount (S .graph) → markIn slip i ≡ 2 → member i (items (S .graph) (S .source) w) ≡ false)
-      × ((i : ℕ) → i < itemCount (S .graph) → markIn slip i ≡ 1 → member i (items (S .graph) (S .source) w) ≡ true)
-  route-kept w R =
-      let slip = passSlip S (verdict S) in
-      let e : passOn sheet ≡ finished slip = pass-finishes sheet S a in
-      let z : verdictIn slip ≡ 0 = verdict-in slip e ∙ all-stands S (route-stands S w R) in
-      (slip, e, z, λ i h q. route-clear S w R i (sym (marks-exact slip e z i h) ∙ q), λ i h q. route-meets S w R i h (sym (marks-exact slip e z i h) ∙ q))
+  -- Under verdict 0 an open item ends mandatory exactly when it is source, target or an end of a mandatory arc.
+  pub forced-exact : (slip : List ℕ) → passOn sheet ≡ finished slip → verdictIn slip ≡ 0 → (i : ℕ) → i < itemCount (S .graph) → isOpen S i ≡ true
+      → (markIn slip i ≡ 1) ↔ Forced S i
+  forced-exact slip e z i h o =
+      let m = marks-exact slip e z i h in
+      let t = stands-all S (sym (verdict-in slip e) ∙ z) in
+      (λ q. forced-is S i (forced-mark S i o (sym m ∙ q)), λ f. m ∙ mark-forced S i o (forced-met S t i f) (is-forced S good i f))
+
+  -- and every item that is not open keeps its mark
+  pub marked-kept : (slip : List ℕ) → passOn sheet ≡ finished slip → verdictIn slip ≡ 0 → (i : ℕ) → i < itemCount (S .graph) → isOpen S i ≡ false
+      → markIn slip i ≡ markOf S i
+  marked-kept slip e z i h o = marks-exact slip e z i h ∙ other-mark S i o
+
+  -- So no simple route that obeys the marks is lost, and none is won: a walk is a route of the sheet exactly when the round stands and the walk is a
+  -- route of the sheet with the marks that the pass leaves.
+  pub route-kept : (w : List ℕ)
+      → Route S w ↔ ((slip : List ℕ) × (passOn sheet ≡ finished slip) × (verdictIn slip ≡ 0) × Route (marked S (marksIn slip)) w)
+  route-kept w = (forth, λ k. left-route S w (subst (λ (ms : List ℕ). Route (marked S ms) w) (marks-left (k .0) (k .1) (k .2)) (k .3)))
+    where
+      forth : Route S w → (slip : List ℕ) × (passOn sheet ≡ finished slip) × (verdictIn slip ≡ 0) × Route (marked S (marksIn slip)) w
+      forth R =
+          let slip = passSlip S (verdict S) in
+          let e : passOn sheet ≡ finished slip = pass-finishes sheet S a in
+          let z : verdictIn slip ≡ 0 = verdict-in slip e ∙ all-stands S (route-stands S w R) in
+          (slip, e, z, subst (λ (ms : List ℕ). Route (marked S ms) w) (sym (marks-left slip e z)) (route-left S w R))

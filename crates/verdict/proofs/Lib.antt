@@ -2,4 +2,5 @@ pub mod AcceptedLaws
 pub mod VerdictLaws
 pub mod SlipOfPass
 pub mod RouteLaws
+pub mod ForcedLaws
 pub mod Demand2

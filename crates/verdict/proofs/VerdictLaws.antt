@@ -1,19 +1,21 @@
 -- The verdict by cases: what holds where each is given. Assumes nothing.
 use Prim.Native.Nat.{ℕ, _≤_, _<_}
 use mathlib.Core.Path.{_≡_, refl, sym, ap, _∙_}
-use mathlib.Core.Logic.{_↔_}
+use mathlib.Core.Logic.{_⊎_, inl, inr, _↔_}
 use mathlib.Core.Bool.{Bool, true, false, not, _&&_, true≢false}
 use mathlib.Core.List.{List, [], _∷_}
 use native.Mathlib.Omega.{arith}
 use Rattle.lists.proofs.AscendLaws.{keep-lowest}
-use Rattle.lists.proofs.MemberLaws.{member-head, member-none, keep-member, member-keep}
+use Rattle.lists.proofs.MemberLaws.{member-head, member-cases, member-none, keep-member, member-keep}
 use Rattle.lists.proofs.TestLaws.{and-true, true-and, false-of, not-true}
-use Rattle.lists.specs.Lists.{pick}
+use Rattle.lists.specs.Lists.{pick, member}
 use Rattle.sheet.proofs.MarkLaws.{is-item, item-is, open-is}
 use Rattle.sheet.specs.Sheet.{Sheet, markOf, isOpen, isMandatory, isForbidden, allItems, required}
 use Rattle.walks.proofs.FitsLaws.{fits-mono, fits-none, none-fits, fits-some, some-fits}
 use Rattle.walks.proofs.GoalLaws.{Includes}
-use Rattle.walks.specs.Graph.{itemCount}
+use Rattle.walks.proofs.Join.{meets-all}
+use Rattle.walks.proofs.LeastLaw.{fit-walk, walk-fit}
+use Rattle.walks.specs.Graph.{itemCount, items}
 use Rattle.walks.specs.Walk.{NoWalk, SomeWalk}
 use Rattle.verdict.specs.Verdict.{fitsSheet, unmet, Verdict, verdictFrom, verdict, isPruned, isForced, newMark}
 
@@ -45,6 +47,25 @@ pub fits-fewer : (S : Sheet) (gs gs′ : List ℕ) → Includes gs gs′ → fit
 unfolding fitsSheet
 fits-fewer S gs gs′ n e =
     fits-mono (S .graph) (S .source) (S .target) (S .limit) (S .limit) (isForbidden S) (isForbidden S) gs gs′ (λ j h o. o) n (omega arith) e
+
+-- the walk that meets some goals also fits whatever else it meets
+module _ (S : Sheet) (goals : List ℕ) (v : SomeWalkOn S goals) where
+  pub met-fits : (gs : List ℕ) → ((g : ℕ) → member g gs ≡ true → member g (items (S .graph) (S .source) (v .way)) ≡ true) → fitsSheet S gs ≡ true
+  met-fits gs h =
+      let f = fit-walk (S .graph) (isForbidden S) goals (S .target) (S .source) (v .way) (v .fitting) in
+      some-sheet S gs
+      (record {
+        way = v .way;
+        fitting = walk-fit (S .graph) (isForbidden S) gs (S .target) (S .source) (v .way) (f .0) (meets-all (S .graph) gs (S .source) (v .way) h);
+        short = v .short;
+      })
+
+  pub one-fits : (i : ℕ) → member i (items (S .graph) (S .source) (v .way)) ≡ true → fitsSheet S (i ∷ []) ≡ true
+  one-fits i m = met-fits (i ∷ []) (λ g q. go g (member-cases g i [] q))
+    where
+      go : (g : ℕ) → (g ≡ i) ⊎ (member g [] ≡ true) → member g (items (S .graph) (S .source) (v .way)) ≡ true
+      go g (inl p) = rw p m
+      go g (inr z) = absurd (member-none g z)
 
 -- each mandatory item is met by some walk
 abbrev pub EachMet : Sheet → Type 0
@@ -154,6 +175,12 @@ pub other-mark : (S : Sheet) (i : ℕ) → isOpen S i ≡ false → newMark S i 
 unfolding newMark isPruned
 other-mark S i o = rw o
 
+pub forbidden-stays : (S : Sheet) (i : ℕ) → markOf S i ≡ 2 → newMark S i ≡ 2
+forbidden-stays S i e = other-mark S i (false-of (isOpen S i) (λ o. absurd (omega (arith, open-is S i o, e)))) ∙ e
+
+pub mandatory-stays : (S : Sheet) (i : ℕ) → markOf S i ≡ 1 → newMark S i ≡ 1
+mandatory-stays S i e = other-mark S i (false-of (isOpen S i) (λ o. absurd (omega (arith, open-is S i o, e)))) ∙ e
+
 pub new-mark-low : (S : Sheet) (i : ℕ) → markOf S i ≤ 2 → newMark S i ≤ 2
 unfolding newMark
 new-mark-low S i h = go (isPruned S i) (isOpen S i && isForced S i)
@@ -163,7 +190,10 @@ new-mark-low S i h = go (isPruned S i) (isOpen S i && isForced S i)
     go false true = omega arith
     go false false = h
 
--- an open item that becomes mandatory is forced
+-- an open item that becomes mandatory is forced, and one that is forced and met becomes mandatory
+pub mark-forced : (S : Sheet) (i : ℕ) → isOpen S i ≡ true → fitsSheet S (i ∷ []) ≡ true → isForced S i ≡ true → newMark S i ≡ 1
+mark-forced S i o m f = new-mark-open S i o ∙ rw (m, f)
+
 pub forced-mark : (S : Sheet) (i : ℕ) → isOpen S i ≡ true → newMark S i ≡ 1 → isForced S i ≡ true
 forced-mark S i o e = go (fitsSheet S (i ∷ [])) (isForced S i) (sym (new-mark-open S i o) ∙ e)
   where

@@ -1,8 +1,8 @@
 -- The operation pass: its answer on every input, and what it leaves (document 01, 'The operations and what they refuse').
-use Prim.Native.Nat.{ℕ, suc}
+use Prim.Native.Nat.{ℕ, suc, _≤_}
 use mathlib.Core.Path.{_≡_}
 use mathlib.Core.List.{List, []}
-use lib.ListN.{length, getD}
+use lib.ListN.{length, getD, take, drop}
 use lib.Dec.{ltb}
 use Rattle.lists.specs.Lists.{pick, front}
 use Rattle.varint.specs.Varint.{Read, got, refuse, after}
@@ -44,6 +44,10 @@ passOn sheet = answerOf (after (accepted sheet) (λ S rest. got (passSlip S (ver
 unfoldable pub passed : List ℕ → List ℕ → List ℕ → Outcome
 passed sheet work slip = outcome (lentEnough work slip (passOn sheet)) work slip
 
+-- the slip that a call left: so many bytes in front
+abbrev pub written : Outcome → List ℕ
+written o = take (o .length) (o .slip)
+
 -- What a slip says: its first number and each mark is below 128, and so one byte.
 abbrev pub verdictIn : List ℕ → ℕ
 verdictIn slip = getD slip 0 0
@@ -51,11 +55,16 @@ verdictIn slip = getD slip 0 0
 abbrev pub markIn : List ℕ → ℕ → ℕ
 markIn slip i = getD slip (suc i) 0
 
--- The pass on a sheet refuses its round, and its slip has these goals and reasons (`readSlip` takes no slip of verdict 0).
+abbrev pub marksIn : List ℕ → List ℕ
+marksIn slip = drop 1 slip
+
+-- The pass on a sheet refuses its round: its slip has a verdict 1 to 3, with these goals and reasons.
 pub record Refuses (sheet : List ℕ) (s : Slip) : Type 0 where
   pub slip : List ℕ
   pub finishes : passOn sheet ≡ finished slip
   pub says : readSlip slip ≡ got s []
+  pub low : 1 ≤ s .first
+  pub high : s .first ≤ 3
 
 -- An item ends shut: the slip for the sheet has verdict 0 and mark 2 for the item.
 pub record EndsForbidden (sheet : List ℕ) (i : ℕ) : Type 0 where

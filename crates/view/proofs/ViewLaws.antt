@@ -1,4 +1,4 @@
--- Laws of the arc view: the bytes after so many numbers, as they are passed over, and the part between two positions. Assumes nothing.
+-- Laws of the arc view: the bytes after so many numbers, as they are passed over, the part between two positions, and where it stands. Assumes nothing.
 use Prim.Native.Nat.{ℕ, zero, suc, _+_, _-_, _*_, _≤_, _<_}
 use mathlib.Core.Path.{_≡_, refl, ap, sym, _∙_}
 use mathlib.Core.List.{List, [], _∷_}
@@ -11,7 +11,7 @@ use Rattle.lists.specs.Lists.{pick}
 use Rattle.varint.specs.Varint.{Read, got, refuse, after, lastGroup, above, readGroups, readNumber, several}
 use Rattle.sheet.specs.Sheet.{Sheet}
 use Rattle.sheet.specs.Reader.{taken}
-use Rattle.sheet.specs.ArcView.{restOf, past, bytesOf, viewIn, arcView}
+use Rattle.sheet.specs.ArcView.{restOf, past, bytesOf, forArc, arcView, placeOf}
 use Rattle.sections.specs.declared.Header.{Header}
 use Rattle.reader.specs.declared.SheetRead.the-variants.{Taken, Refused}
 use Rattle.reader.specs.Answer.{headerOf, answered}
@@ -97,33 +97,49 @@ module _ (s : List ℕ) (k from to : ℕ) (e : drop to s ≡ past k (drop from s
       let n : length (drop from s) - length (past k (drop from s)) ≡ to - from = omega (arith, ap length e, length-drop to s, length-drop from s) in
       ap (λ (i : ℕ). take i (drop from s)) (sym n)
 
-module _ (s : List ℕ) (l : ℕ) where
-  refused-in : (r : Read Sheet) {e : ℕ} → Refused e ≡ answered r → [] ≡ viewIn r s l
-  unfolding answered viewIn
-  refused-in (got S rest) q = absurd (let z : _≡_ {A = ℕ} 0 1 = cc in omega arith)
-  refused-in (refuse e) q = refl
+-- what is there for an arc that the answer does not have, and for one that it has
+module _ {A : Type 0} (l : ℕ) (x y : A) where
+  not-taken : (r : Read Sheet) {e : ℕ} → Refused e ≡ answered r → forArc r l x y ≡ y
+  unfolding answered forArc
+  not-taken (got S rest) q = absurd (let z : _≡_ {A = ℕ} 0 1 = cc in omega arith)
+  not-taken (refuse e) q = refl
 
-  pub view-refused : {e : ℕ} → Refused e ≡ answered (taken s) → [] ≡ arcView s l
-  unfolding arcView
-  view-refused q = refused-in (taken s) q
-
-  taken-in : (r : Read Sheet) {h : Header} → Taken h ≡ answered r → viewIn r s l ≡ pick (ltb l (h .arcs)) (bytesOf 3 (past (5 + 3 * l) s)) []
-  unfolding answered viewIn headerOf
-  taken-in (got S rest) {h} q =
+  taken-has : (r : Read Sheet) {h : Header} → Taken h ≡ answered r → forArc r l x y ≡ pick (ltb l (h .arcs)) x y
+  unfolding answered forArc headerOf
+  taken-has (got S rest) {h} q =
       let z : h ≡ headerOf S = cc in
       let n : h .arcs ≡ length (S .graph .arcs) = ap (λ (x : Header). x .arcs) z in
-      ap (λ (i : ℕ). pick (ltb l i) (bytesOf 3 (past (5 + 3 * l) s)) []) (sym n)
-  taken-in (refuse e) q = absurd (let z : _≡_ {A = ℕ} 0 1 = cc in omega arith)
+      ap (λ (i : ℕ). pick (ltb l i) x y) (sym n)
+  taken-has (refuse e) q = absurd (let z : _≡_ {A = ℕ} 0 1 = cc in omega arith)
+
+  module _ (r : Read Sheet) {h : Header} (q : Taken h ≡ answered r) where
+    arc-there : l < h .arcs → forArc r l x y ≡ x
+    arc-there n = taken-has r q ∙ ap (λ (t : Bool). pick t x y) (lt-ltb l (h .arcs) n)
+
+    no-arc : h .arcs ≤ l → forArc r l x y ≡ y
+    no-arc n = taken-has r q ∙ ap (λ (t : Bool). pick t x y) (le-ltb l (h .arcs) n)
+
+-- the view's place and bytes, for each way in which `arc_view` ends; `base` is where the sheet itself stands
+module _ (s : List ℕ) (l base : ℕ) where
+  abbrev pub Here : ℕ → List ℕ → Type 0
+  Here place view = (place + base ≡ placeOf s l + base) × (view ≡ arcView s l)
+
+  here : {place : ℕ} {view : List ℕ} → placeOf s l ≡ place → arcView s l ≡ view → Here place view
+  here a b = (ap (_+ base) (sym a), sym b)
+
+  pub view-refused : {e : ℕ} → Refused e ≡ answered (taken s) → Here 0 []
+  unfolding arcView placeOf
+  view-refused q = here (not-taken l _ _ (taken s) q) (not-taken l _ _ (taken s) q)
 
   module _ {h : Header} (q : Taken h ≡ answered (taken s)) where
-    chosen : {b : Bool} → ltb l (h .arcs) ≡ b → arcView s l ≡ pick b (bytesOf 3 (past (5 + 3 * l) s)) []
-    unfolding arcView
-    chosen {b} e = taken-in (taken s) q ∙ ap (λ (t : Bool). pick t (bytesOf 3 (past (5 + 3 * l) s)) []) e
-
-    pub view-none : h .arcs ≤ l → [] ≡ arcView s l
-    view-none n = sym (chosen (le-ltb l (h .arcs) n))
+    pub view-none : h .arcs ≤ l → Here 0 []
+    unfolding arcView placeOf
+    view-none n = here (no-arc l _ _ (taken s) q n) (no-arc l _ _ (taken s) q n)
 
     pub view-part :
         {from to : ℕ} → l < h .arcs → drop from s ≡ past (5 + 3 * l) s → drop to s ≡ past 3 (drop from s) → from ≤ length s → to ≤ length s
-        → take (to - from) (drop from s) ≡ arcView s l
-    view-part {from} {to} n a b f t = between s 3 from to b f t ∙ ap (bytesOf 3) a ∙ sym (chosen (lt-ltb l (h .arcs) n))
+        → Here from (take (to - from) (drop from s))
+    unfolding arcView placeOf
+    view-part {from} {to} n a b f t =
+        let e : length s - length (past (5 + 3 * l) s) ≡ from = omega (arith, ap length a, length-drop from s) in
+        here (arc-there l _ _ (taken s) q n ∙ e) (arc-there l _ _ (taken s) q n ∙ sym (between s 3 from to b f t ∙ ap (bytesOf 3) a))

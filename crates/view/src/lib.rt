@@ -2,7 +2,7 @@
 ghost use mathlib.Core.Path.{_≡_};
 ghost use Prim.Native.Nat.{_+_, _*_, _≤_};
 ghost use lib.ListN.{length, drop};
-ghost use Rattle.sheet.specs.ArcView.{past, arcView};
+ghost use Rattle.sheet.specs.ArcView.{past, arcView, placeOf};
 use numbers::Section;
 use reader::SheetRead;
 
@@ -22,8 +22,10 @@ fn past_numbers(sheet: &[u8], from: usize, count: usize) -> usize
     }
 }
 
-// The part of the sheet that holds the three numbers of the arc; empty where the sheet is refused or has no such arc (document 01: leg view).
+// The part of the sheet that holds the three numbers of the arc; empty, at the sheet's front, where the sheet is refused or has no such arc (document
+// 01: leg view). The contract fixes the place, and so no other part that holds the same bytes will do.
 pub fn arc_view(sheet: &[u8], arc: u32) -> &[u8]
+    ensures { λ r. ⌜ (r .ptr .0 ≡ sheet .entry .ptr .0) × (r .ptr .1 ≡ placeOf (now (sheet .entry)) arc + sheet .entry .ptr .1) ⌝ }
     ensures { λ r. ⌜ now r ≡ arcView (now (sheet .entry)) arc ⌝ }
 {
     let mut arcs = [0u32; 1536];

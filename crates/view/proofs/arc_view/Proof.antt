@@ -1,6 +1,6 @@
 -- `arc_view` reads the sheet, passes over the numbers before the arc's and over its own, and hands back what stands between. Assumes nothing.
 use borrow.Author.Needs.{needs}
-use mathlib.Core.Path.{sym, _∙_}
+use mathlib.Core.Path.{refl, sym, _∙_}
 use Rattle.view.proofs.ViewLaws.{in-order, view-refused, view-none, view-part}
 use Rattle.view.proofs.arc_view.Statement.{statement}
 use Rattle.view.proofs.arc_view.Tie as tie
@@ -30,7 +30,9 @@ part-result-end : tie.Need-part-result-end
 part-result-end c = search needs
 
 returns : tie.Need-returns
-returns c = view-refused _ _ (sym (c .before .enum-told .given .1) ∙ c .before .before .before .before .before .read .ensures .0)
+returns c =
+    let h = view-refused _ _ _ (sym (c .before .enum-told .given .1) ∙ c .before .before .before .before .before .read .ensures .0) in
+    ((refl, h .0), h .1)
 
 sub-result-2 : tie.Need-sub-result-2
 sub-result-2 c = search needs
@@ -42,7 +44,9 @@ part-result-end-2 : tie.Need-part-result-end-2
 part-result-end-2 c = search needs
 
 returns-2 : tie.Need-returns-2
-returns-2 c = view-none _ _ (sym (c .before .before .before .before .header .given .1) ∙ c .before .before .before .before .before .before .before .before .read .ensures .0) (c .before .if1 .taken)
+returns-2 c =
+    let h = view-none _ _ _ (sym (c .before .before .before .before .header .given .1) ∙ c .before .before .before .before .before .before .before .before .read .ensures .0) (c .before .if1 .taken) in
+    ((refl, h .0), h .1)
 
 mul-past-numbers : tie.Need-mul-past-numbers
 mul-past-numbers c = search needs
@@ -67,8 +71,9 @@ part-result-end-3 c = c .past-numbers2 .ensures .1
 
 returns-3 : tie.Need-returns-3
 returns-3 c =
-    view-part _ _ (sym (c .before .before .before .before .before .before .header .given .1) ∙ c .before .before .before .before .before .before .before .before .before .before .read .ensures .0) (c .before .before .before .if1 .left)
-    (c .before .before .past-numbers .ensures .0) (c .before .past-numbers2 .ensures .0) (c .before .before .past-numbers .ensures .1) (c .before .past-numbers2 .ensures .1)
+    let h = view-part _ _ _ (sym (c .before .before .before .before .before .before .header .given .1) ∙ c .before .before .before .before .before .before .before .before .before .before .read .ensures .0) (c .before .before .before .if1 .left)
+    (c .before .before .past-numbers .ensures .0) (c .before .past-numbers2 .ensures .0) (c .before .before .past-numbers .ensures .1) (c .before .past-numbers2 .ensures .1) in
+    ((refl, h .0), h .1)
 
 pub arc-view-spec : {M : Type 1} → statement M
 arc-view-spec =
