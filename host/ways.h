@@ -29,6 +29,7 @@
  *     0. The lent parts must not overlap.
  *   - It uses what it is lent and nothing else: no heap, no file, no errno, no locale, and nothing
  *     is kept between calls. So calls with different buffers may run at the same time.
+ *   - It needs up to WAYS_STACK_BYTES of its thread's stack.
  *   - The number returned is 65,536 times the refusal, plus the slip's length, or for ways_check
  *     plus 1 for yes. A refused call gives length 0, or no. WAYS_REFUSAL and WAYS_LENGTH take the
  *     number apart.
@@ -50,6 +51,11 @@ extern "C" {
 #define WAYS_WORK_BYTES 65536u /* what the work must have */
 #define WAYS_SLIP_BYTES 1200u  /* what the slip of ways_pass and ways_reason must have */
 #define WAYS_SHEET_BYTES 3144u /* the longest sheet */
+
+/* A thread with a stack of this size can make any call: what the largest sheets need, and a margin
+ * for the caller's own frames. The host's tests make their calls on such sheets in a thread of this
+ * size. */
+#define WAYS_STACK_BYTES 131072u
 
 /* The mark of an item, in a sheet and in the slip of a round that stands. */
 enum ways_mark {

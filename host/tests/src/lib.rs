@@ -2,9 +2,11 @@
 
 mod desk;
 mod guard;
+mod stack;
 
 pub use desk::{Call, Desk};
 pub use guard::Guarded;
+pub use stack::stack_used;
 
 /// What a refusal number is multiplied by.
 pub const REFUSED: u32 = 65_536;
