@@ -2,7 +2,7 @@
  * and for a check of each slip, and says in words what came back. Then it shuts a place and a leg,
  * so that the round is refused, and last hands over a sheet that is cut short.
  *
- *     cc host/planner.c target/staticlib/libplanner.a -o planner
+ *     cc host/planner.c target/staticlib/libplanner.a -o target/planner && target/planner
  */
 #include "ways.h"
 

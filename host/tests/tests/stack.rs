@@ -120,3 +120,10 @@ fn the_largest_sheets() {
     println!("stack: calls of pass, reason, check {:?}", used.calls);
     assert!(used.calls.iter().all(|&calls| calls > 2), "{:?}", used.calls);
 }
+
+#[test]
+fn readme_states_the_same() {
+    let bytes = defined("WAYS_STACK_BYTES");
+    let stated = format!("{},{:03} bytes (`WAYS_STACK_BYTES`)", bytes / 1_000, bytes % 1_000);
+    assert!(include_str!("../../../README.md").contains(&stated), "README.md does not say {stated}");
+}
