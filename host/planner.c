@@ -1,7 +1,8 @@
-/* A small planner: it draws up the sheet B, asks for the pass, for the reason of each struck item and for a check of each slip, and says in words what came back. Then
- * it shuts a place and a leg, so that the round is refused, and last hands over a sheet that is cut short.
+/* A small planner: it draws up the sheet B, asks for the pass, for the reason of each struck item
+ * and for a check of each slip, and says in words what came back. Then it shuts a place and a leg,
+ * so that the round is refused, and last hands over a sheet that is cut short.
  *
- *     cc -Wall -Wextra -Werror -I host host/planner.c target/staticlib/libplanner.a -o planner
+ *     cc host/planner.c target/staticlib/libplanner.a -o target/planner && target/planner
  */
 #include "ways.h"
 
@@ -13,11 +14,11 @@
 #define START 0u
 #define FINISH 3u
 
-enum { OPEN, MUST, SHUT };
-
 struct leg { uint32_t tail, head, minutes; };
 
-static const struct leg legs[LEGS] = { { 0, 1, 4 }, { 1, 3, 4 }, { 0, 2, 3 }, { 2, 3, 9 }, { 1, 2, 1 } };
+static const struct leg legs[LEGS] = {
+    { 0, 1, 4 }, { 1, 3, 4 }, { 0, 2, 3 }, { 2, 3, 9 }, { 1, 2, 1 }
+};
 
 static uint8_t sheet[WAYS_SHEET_BYTES];
 static uint8_t work[WAYS_WORK_BYTES];
@@ -68,7 +69,8 @@ static void print_item(uint32_t item) {
         printf("place %u", (unsigned)item);
     } else {
         const struct leg *leg = &legs[item - PLACES];
-        printf("the leg from %u to %u of %u minutes", (unsigned)leg->tail, (unsigned)leg->head, (unsigned)leg->minutes);
+        printf("the leg from %u to %u of %u minutes", (unsigned)leg->tail, (unsigned)leg->head,
+               (unsigned)leg->minutes);
     }
 }
 
@@ -90,44 +92,46 @@ static void explain(size_t sheet_length, uint32_t slip_length) {
     print_list(&at, "it needs", "any walk within the limit would do");
     print_list(&at, "because these are shut:", "because the map alone is too long");
     uint32_t answer = ways_check(sheet, sheet_length, work, sizeof work, slip, slip_length);
-    printf("  check says %s\n", answer == 1 ? "yes" : "no");
+    printf("  check says %s\n", answer == WAYS_YES ? "yes" : "no");
 }
 
-/* Says which open items the pass struck off, and why. */
-static void print_struck(size_t sheet_length, const uint8_t marks[ITEMS], const uint8_t struck[ITEMS]) {
-    for (uint32_t item = 0; item < ITEMS; item++) {
-        if (marks[item] == OPEN && struck[item] == SHUT) {
-            printf("struck off: ");
-            print_item(item);
-            printf("\n");
-            explain(sheet_length, WAYS_LENGTH(ways_reason(sheet, sheet_length, work, sizeof work, slip, sizeof slip, item)));
-        }
-    }
+/* Says why the pass struck an item off. */
+static void print_struck(size_t sheet_length, uint32_t item) {
+    printf("struck off: ");
+    print_item(item);
+    printf("\n");
+    uint32_t number =
+        ways_reason(sheet, sheet_length, work, sizeof work, slip, sizeof slip, item);
+    explain(sheet_length, WAYS_LENGTH(number));
 }
 
 /* Asks for the pass on the sheet drawn up, and says what came back. */
 static void judge(size_t sheet_length, const uint8_t marks[ITEMS]) {
     uint32_t number = ways_pass(sheet, sheet_length, work, sizeof work, slip, sizeof slip);
-    if (WAYS_REFUSAL(number)) {
+    if (WAYS_REFUSAL(number) != WAYS_REFUSED_NOT) {
         printf("the sheet is refused with %u\n", (unsigned)WAYS_REFUSAL(number));
         return;
     }
-    if (slip[0] > 0) {
+    if (slip[0] != WAYS_VERDICT_STANDS) {
         printf("the round is refused with verdict %u\n", (unsigned)slip[0]);
         explain(sheet_length, WAYS_LENGTH(number));
         return;
     }
     printf("the round stands\n");
-    uint8_t struck[ITEMS];
+    uint8_t left[ITEMS]; /* the marks that the pass left, since the next call takes the slip */
     for (uint32_t item = 0; item < ITEMS; item++) {
-        struck[item] = slip[item + 1];
+        left[item] = slip[item + 1];
     }
-    print_struck(sheet_length, marks, struck);
+    for (uint32_t item = 0; item < ITEMS; item++) {
+        if (marks[item] == WAYS_MARK_OPEN && left[item] == WAYS_MARK_SHUT) {
+            print_struck(sheet_length, item);
+        }
+    }
 }
 
 int main(void) {
-    const uint8_t all_open[ITEMS] = { OPEN };
-    const uint8_t closed[ITEMS] = { OPEN, SHUT, OPEN, OPEN, OPEN, SHUT, OPEN, OPEN, OPEN };
+    const uint8_t all_open[ITEMS] = { WAYS_MARK_OPEN };
+    const uint8_t closed[ITEMS] = { [1] = WAYS_MARK_SHUT, [5] = WAYS_MARK_SHUT };
 
     printf("B, within 8 minutes\n");
     judge(draw_up(8, all_open), all_open);

@@ -1,4 +1,4 @@
-//! Links the proved library. `WAYS_ARCHIVE` names another archive than the repository's own, which is made here where it is missing.
+//! Links the proved library. `WAYS_ARCHIVE` names another archive than the repository's own, which is made here where it is missing or older than `crates/`.
 
 use std::env;
 use std::path::{Path, PathBuf};
@@ -16,14 +16,15 @@ fn main() {
     link(&archive);
 }
 
-/// The archive that `rt` proves and writes.
+/// The archive that `rt` proves and writes. Cargo shows what `rt` prints only where it fails; `host/run-tests` makes the archive in sight.
 fn own_archive(repository: &Path) -> PathBuf {
-    let archive = repository.join("target/staticlib/libplanner.a");
-    if !archive.is_file() {
-        let made = Command::new("rt").args(["staticlib", "planner"]).current_dir(repository).status();
-        assert!(made.expect("rt, the Rattle toolchain, is needed to make the library").success(), "rt staticlib planner failed");
+    for source in ["crates", "crates.txt"] {
+        println!("cargo:rerun-if-changed={}", repository.join(source).display());
     }
-    archive
+    let archive = "target/staticlib/libplanner.a";
+    let made = Command::new(repository.join("host/fresh")).args([archive, "rt", "staticlib", "planner"]).status();
+    assert!(made.expect("host/fresh can be run").success(), "the library is missing or older than crates/, and `rt staticlib planner` did not make it");
+    repository.join(archive)
 }
 
 /// The archive is copied under a name of its own, so that no other library of its name is found in its place.

@@ -2,9 +2,11 @@
 
 mod desk;
 mod guard;
+mod stack;
 
 pub use desk::{Call, Desk};
 pub use guard::Guarded;
+pub use stack::stack_used;
 
 /// What a refusal number is multiplied by.
 pub const REFUSED: u32 = 65_536;
@@ -13,3 +15,13 @@ pub const REFUSED: u32 = 65_536;
 pub fn hex(bytes: &[u8]) -> String {
     bytes.iter().map(|byte| format!("{byte:02x}")).collect::<Vec<_>>().join(" ")
 }
+
+/// The number that `ways.h` defines under a name.
+pub fn defined(name: &str) -> usize {
+    let line = HEADER.lines().find_map(|line| line.strip_prefix("#define ")?.strip_prefix(name)?.strip_prefix(' '));
+    let number = line.expect("a line that defines it").split([' ', 'u']).next().expect("its number");
+    number.parse().expect("a plain number")
+}
+
+/// The text of `ways.h`.
+pub const HEADER: &str = include_str!("../../ways.h");

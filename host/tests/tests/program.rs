@@ -2,8 +2,9 @@
 
 use cases::{damaged, draw, sheet_b, Random, Sheet, FORBIDDEN, KINDS, MANDATORY};
 use std::env;
+use std::fs::File;
 use std::io::Write;
-use std::path::PathBuf;
+use std::path::{Path, PathBuf};
 use std::process::{Command, Stdio};
 use std::time::Duration;
 use tests::hex;
@@ -93,6 +94,49 @@ fn input_in_pieces() {
         assert_eq!(printed(&program, &[front, back]), "verdict 0\nstruck 2 6 7 8\n");
     }
     assert_eq!(printed(&program, &[&bytes[..3], &bytes[3..9], &bytes[9..], &[0]]), "refused 12\n");
+}
+
+/// Runs a command with which the program cannot read or cannot write: nothing may be on its standard output, and this alone on its standard error.
+fn try_failing(command: &mut Command, expected: &str) {
+    let output = command.output().expect("the program starts");
+    assert!(output.status.success(), "{}", output.status);
+    assert_eq!(String::from_utf8_lossy(&output.stdout), "");
+    assert_eq!(String::from_utf8_lossy(&output.stderr), expected);
+}
+
+/// The program, started by the shell with the sheet B as its input and then `changed` as the shell has it.
+fn by_shell(program: &Path, changed: &str) -> Command {
+    let mut shell = Command::new("sh");
+    shell.args(["-c", &format!("exec \"$0\" {changed}")]).arg(program);
+    shell.stdin(File::open(concat!(env!("CARGO_MANIFEST_DIR"), "/../../samples/b.sheet")).expect("a sheet"));
+    shell
+}
+
+/// A sheet that cannot be read is not judged.
+#[test]
+fn input_that_cannot_be_read() {
+    let Some(program) = program() else { return };
+    let folder = File::open(env!("CARGO_MANIFEST_DIR")).expect("a folder");
+    try_failing(Command::new(&program).stdin(folder), "ways: standard input: Is a directory\n");
+    try_failing(&mut by_shell(&program, "<&-"), "ways: standard input: Bad file descriptor\n");
+    try_failing(&mut by_shell(&program, "0> /dev/null"), "ways: standard input: Bad file descriptor\n");
+}
+
+#[test]
+fn output_that_cannot_be_written() {
+    let Some(program) = program() else { return };
+    try_failing(&mut by_shell(&program, "> /dev/full"), "ways: standard output: No space left on device\n");
+    try_failing(&mut by_shell(&program, ">&-"), "ways: standard output: Bad file descriptor\n");
+}
+
+/// With nothing to complain of, standard error stays empty.
+#[test]
+fn silent_on_standard_error() {
+    let Some(program) = program() else { return };
+    for changed in ["", "< /dev/null"] {
+        let output = by_shell(&program, changed).output().expect("the program starts");
+        assert!(!output.stdout.is_empty() && output.stderr.is_empty(), "{output:?}");
+    }
 }
 
 #[test]
