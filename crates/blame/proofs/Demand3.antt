@@ -21,11 +21,12 @@ use Rattle.sheet.specs.Sheet.{Sheet, isForbidden, required, isOpen, markOf}
 use Rattle.sheet.specs.Slip.{Slip}
 use Rattle.varint.specs.Varint.{got}
 use Rattle.verdict.proofs.AcceptedLaws.{accepted-good}
-use Rattle.verdict.proofs.Demand2.{verdict-in, marks-exact, refuses-is, is-refused}
+use Rattle.verdict.proofs.Demand2.{is-demanded, required-demanded, demanded-met, verdict-in, marks-exact, refuses-is, is-refused}
 use Rattle.verdict.proofs.SlipOfPass.{pass-finishes}
 use Rattle.verdict.proofs.VerdictLaws.{one, Stands, stands-all, fits-fewer, refused-goals, VerdictIs, verdict-is, two, three, stands, pruned-mark, forbidden-stays}
 use Rattle.verdict.specs.Accepted.{accepted}
 use Rattle.verdict.specs.Pass.{Refuses, EndsForbidden}
+use Rattle.verdict.specs.Route.{demandedNodes}
 use Rattle.verdict.specs.Verdict.{reasonsFor, fitsSheet, slipFor, Verdict, verdict, isPruned, newMark, passSlip}
 use Rattle.walks.proofs.FitsLaws.{fits-anti, none-fits}
 use Rattle.walks.specs.Graph.{Graph, Arc, noArc, tailOf, headOf, weightOf, itemCount}
@@ -48,17 +49,18 @@ map-eq G H e =
     (λ l h. arc-eq (getD (H .arcs) l noArc) (getD (G .arcs) l noArc) (e .tails l (rw (← (e .count)) h)) (e .heads l (rw (← (e .count)) h)) (e .weights l (rw (← (e .count)) h))) in
     ap {B = Graph} (λ (n : ℕ). record { nodes = n; arcs = H .arcs }) (e .nodes) ∙ ap {B = Graph} (λ (xs : List Arc). record { nodes = G .nodes; arcs = xs }) a
 
-module _ (S : Sheet) (goals : List ℕ) where
-  list : List ℕ
-  list = reasonsFor S goals
+-- The list blocks the goals: no walk clear of it, all else open, meets them within the limit.
+abbrev pub Blocks : Sheet → List ℕ → List ℕ → Type 0
+Blocks S list goals = NoWalk (S .graph) (S .source) (S .target) (S .limit) (λ j. member j list) goals
 
+module _ (S : Sheet) (goals : List ℕ) where
   -- each listed closure is shut on the sheet
   pub listed-forbidden : (r : ℕ) → member r (reasonsFor S goals) ≡ true → isForbidden S r ≡ true
   unfolding reasonsFor isForbidden
   listed-forbidden r m = reasons-closed (S .graph) (S .source) (S .target) (S .limit) goals (S .marks) r m .0
 
   -- no walk clear of the list, all else open, meets the goals within the limit
-  pub list-valid : fitsSheet S goals ≡ false → NoWalk (S .graph) (S .source) (S .target) (S .limit) (λ j. member j (reasonsFor S goals)) goals
+  pub list-valid : fitsSheet S goals ≡ false → Blocks S (reasonsFor S goals) goals
   unfolding reasonsFor fitsSheet isForbidden
   list-valid e = reasons-valid (S .graph) (S .source) (S .target) (S .limit) goals (S .marks) e
 
@@ -68,60 +70,60 @@ module _ (S : Sheet) (goals : List ℕ) where
   unfolding reasonsFor
   list-minimal r m = reasons-minimal (S .graph) (S .source) (S .target) (S .limit) goals (S .marks) r m
 
-  -- on a later sheet the goals are met by no walk either
-  pub list-blocks : (sheet : List ℕ) (T : Sheet) → fitsSheet S goals ≡ false → Later S (reasonsFor S goals) sheet T → fitsSheet T goals ≡ false
-  unfolding fitsSheet isForbidden
-  list-blocks sheet T e L =
-      rw (map-eq (S .graph) (T .graph) (L .map), L .source, L .target)
-      (fits-anti (S .graph) (S .source) (S .target) (T .limit) (S .limit) (isForbidden T) (λ j. member j (reasonsFor S goals)) goals goals
-      (λ j h o. false-back (member j (reasonsFor S goals)) (isForbidden T j) (L .closed j) o) (λ g m. m) (L .limit)
-      (none-fits (S .graph) (S .source) (S .target) (S .limit) (λ j. member j (reasonsFor S goals)) goals (list-valid e)))
-
 same-count : (S T : Sheet) → SameMap (S .graph) (T .graph) → itemCount (T .graph) ≡ itemCount (S .graph)
 same-count S T e = ap itemCount (map-eq (S .graph) (T .graph) e)
 
--- what can be named on a sheet: nothing, one item, or all required nodes
-pub data Named (S : Sheet) : List ℕ → Type 0 where
-  nothing : Named S []
-  item : (i : ℕ) → i < itemCount (S .graph) → Named S (i ∷ [])
-  all : Named S (required S)
+-- a list that blocks some goals blocks them on every later sheet
+pub blocks-later : (S : Sheet) (list goals sheet : List ℕ) (T : Sheet) → Blocks S list goals → Later S list sheet T → fitsSheet T goals ≡ false
+unfolding fitsSheet isForbidden
+blocks-later S list goals sheet T b L =
+    rw (map-eq (S .graph) (T .graph) (L .map), L .source, L .target)
+    (fits-anti (S .graph) (S .source) (S .target) (T .limit) (S .limit) (isForbidden T) (λ j. member j list) goals goals
+    (λ j h o. false-back (member j list) (isForbidden T j) (L .closed j) o) (λ g m. m) (L .limit)
+    (none-fits (S .graph) (S .source) (S .target) (S .limit) (λ j. member j list) goals b))
 
-verdict-names : (S : Sheet) → (verdict S .number ≡ 0 → ⊥) → Named S (verdict S .goals)
-verdict-names S n = go (verdict S) (verdict-is S) n
+-- Goals that one walk meets wherever each is demanded and the round stands: nodes, or one item alone.
+pub data Goals (G : Graph) : List ℕ → Type 0 where
+  nodes : {goals : List ℕ} → ((g : ℕ) → member g goals ≡ true → g < G .nodes) → Goals G goals
+  alone : (i : ℕ) → i < itemCount G → Goals G (i ∷ [])
+
+verdict-goals : (S : Sheet) → (verdict S .number ≡ 0 → ⊥) → Goals (S .graph) (verdict S .goals)
+verdict-goals S n = go (verdict S) (verdict-is S) n
   where
-    go : (v : Verdict) → VerdictIs S v → (v .number ≡ 0 → ⊥) → Named S (v .goals)
-    go v (one e) n = nothing
-    go v (two i s h m e l) n = item i h
-    go v (three s m e) n = all
+    go : (v : Verdict) → VerdictIs S v → (v .number ≡ 0 → ⊥) → Goals (S .graph) (v .goals)
+    go v (one e) n = nodes (λ g m. absurd (member-none g m))
+    go v (two i s h m e l) n = alone i h
+    go v (three s m e) n = nodes (λ g m. required-is S g m .node)
     go v (stands s m e) n = absurd (n refl)
 
--- a required node that is demanded on a later sheet is required there
-required-there : (S T : Sheet) → SameMap (S .graph) (T .graph) → T .source ≡ S .source → T .target ≡ S .target → (g : ℕ) → member g (required S) ≡ true
-    → Demanded T g → member g (required T) ≡ true
-required-there S T e s t g m (inl q) =
-    let r = required-is S g m in
-    is-required T g
-    (record {
-      node = rw (e .nodes) (r .node);
-      between = (λ z. r .between .0 (z ∙ s), λ z. r .between .1 (z ∙ t));
-      demanded = inl q;
-    })
-required-there S T e s t g m (inr q) = q
-
 -- where a round stands, everything demanded is met
-stands-meets : (S T : Sheet) → SameMap (S .graph) (T .graph) → T .source ≡ S .source → T .target ≡ S .target → Stands T → {goals : List ℕ} → Named S goals
-    → ((g : ℕ) → member g goals ≡ true → Demanded T g) → fitsSheet T goals ≡ true
-stands-meets S T e s t z nothing d = z .some
-stands-meets S T e s t z (item i h) d = go (d i (member-head i []))
+stands-meets : (T : Sheet) {goals : List ℕ} → Stands T → Goals (T .graph) goals → ((g : ℕ) → member g goals ≡ true → Demanded T g)
+    → fitsSheet T goals ≡ true
+stands-meets T {goals} z (nodes below) d = fits-fewer T (demandedNodes T) goals (λ g m. demanded g (below g m) (d g m)) (demanded-met T (z .together))
+  where
+    demanded : (g : ℕ) → g < T .graph .nodes → Demanded T g → member g (demandedNodes T) ≡ true
+    demanded g h (inl q) = is-demanded T g h (inl q)
+    demanded g h (inr q) = required-demanded T g q
+stands-meets T z (alone i h) d = go (d i (member-head i []))
   where
     only : member i (required T) ≡ true → (j : ℕ) → (j ≡ i) ⊎ (member j [] ≡ true) → member j (required T) ≡ true
     only m j (inl q) = rw q m
     only m j (inr q) = absurd (member-none j q)
 
     go : Demanded T i → fitsSheet T (i ∷ []) ≡ true
-    go (inl m) = z .each i (rw (same-count S T e) h) m
+    go (inl m) = z .each i h m
     go (inr m) = fits-fewer T (required T) (i ∷ []) (λ j q. only m j (member-cases j i [] q)) (z .together)
-stands-meets S T e s t z all d = fits-fewer T (required T) (required S) (λ g m. required-there S T e s t g m (d g m)) (z .together)
+
+-- Demand 3's step: a list that blocks some goals on a sheet has the pass refuse every later sheet's round where these goals are demanded.
+pub blocks-again : (S : Sheet) (list goals later : List ℕ) (T : Sheet) → Blocks S list goals → Goals (S .graph) goals → Later S list later T
+    → ((g : ℕ) → member g goals ≡ true → Demanded T g) → (s : Slip) × Refuses later s
+blocks-again S list goals later T b g L d = (
+  slipFor T (verdict T .number) (verdict T .goals),
+  is-refused later T (L .accepts) (λ z. true≢false (sym (stands-meets T (stands-all T z) there d) ∙ blocks-later S list goals later T b L)),
+)
+  where
+    there : Goals (T .graph) goals
+    there = rw (map-eq (S .graph) (T .graph) (L .map)) g
 
 -- a pruned item is met by no walk
 pruned-unmet : (S : Sheet) (i : ℕ) → isPruned S i ≡ true → fitsSheet S (i ∷ []) ≡ false
@@ -129,7 +131,7 @@ unfolding isPruned
 pruned-unmet S i p = not-true (fitsSheet S (i ∷ [])) (and-true (isOpen S i) (not (fitsSheet S (i ∷ []))) p .1)
 
 -- on a later sheet an item that no walk meets ends forbidden, or the round is refused
-blocked-ends : (sheet : List ℕ) (T : Sheet) (i : ℕ) → accepted sheet ≡ got T [] → i < itemCount (T .graph) → fitsSheet T (i ∷ []) ≡ false
+pub blocked-ends : (sheet : List ℕ) (T : Sheet) (i : ℕ) → accepted sheet ≡ got T [] → i < itemCount (T .graph) → fitsSheet T (i ∷ []) ≡ false
     → EndsForbidden sheet i ⊎ ((s : Slip) × Refuses sheet s)
 blocked-ends sheet T i a h b = go (true-or-false (eqb (verdict T .number) 0))
   where
@@ -160,7 +162,7 @@ module _ (sheet : List ℕ) (S : Sheet) (a : accepted sheet ≡ got S []) where
   pruned-again i s x later T L =
       let y = explained sheet S i s a x in
       let L′ : Later S (reasonsFor S (i ∷ [])) later T = subst (λ (s : Slip). Later S (s .reasons) later T) (y .3) L in
-      blocked-ends later T i (L .accepts) (rw (same-count S T (L .map)) (y .0)) (list-blocks S (i ∷ []) later T (pruned-unmet S i (y .2)) L′)
+      blocked-ends later T i (L .accepts) (rw (same-count S T (L .map)) (y .0)) (blocks-later S (reasonsFor S (i ∷ [])) (i ∷ []) later T (list-valid S (i ∷ []) (pruned-unmet S i (y .2))) L′)
 
   -- Where the round was refused, the pass refuses a later sheet's round too, if everything named is demanded there.
   pub refused-again : (s : Slip) → Refuses sheet s → (later : List ℕ) (T : Sheet) → Later S (s .reasons) later T
@@ -170,10 +172,8 @@ module _ (sheet : List ℕ) (S : Sheet) (a : accepted sheet ≡ got S []) where
       let y = refuses-is sheet S a s r in
       let L′ : Later S (reasonsFor S (verdict S .goals)) later T = subst (λ (s : Slip). Later S (s .reasons) later T) (y .1) L in
       let d′ : (g : ℕ) → member g (verdict S .goals) ≡ true → Demanded T g = subst (λ (s : Slip). (g : ℕ) → member g (s .goals) ≡ true → Demanded T g) (y .1) d in
-      let b = list-blocks S (verdict S .goals) later T (refused-goals S (y .0)) L′ in (
-        slipFor T (verdict T .number) (verdict T .goals),
-        is-refused later T (L .accepts) (λ z. true≢false (sym (stands-meets S T (L .map) (L .source) (L .target) (stands-all T z) (verdict-names S (y .0)) d′) ∙ b)),
-      )
+      blocks-again S (reasonsFor S (verdict S .goals)) (verdict S .goals) later T (list-valid S (verdict S .goals) (refused-goals S (y .0)))
+      (verdict-goals S (y .0)) L′ d′
 
   -- For every closure listed, once it and everything unlisted are open and only the other listed ones shut, some walk within the limit meets
   -- everything named: for a refused round,

@@ -33,13 +33,28 @@ use Rattle.verdict.proofs.VerdictLaws.{NoWalkOn, sheet-none, none-sheet
 use Rattle.verdict.specs.Accepted.{accepted}
 use Rattle.verdict.specs.Pass.{finished, passOn, verdictIn, markIn, marksIn, Refuses}
 use Rattle.verdict.specs.Route.{Route, demandedNodes, marked, Forced}
-use Rattle.verdict.specs.Verdict.{verdict, newMark, slipFor, passSlip, Verdict, newMarks}
+use Rattle.verdict.specs.Verdict.{fitsSheet, verdict, newMark, slipFor, passSlip, Verdict, newMarks}
 
 -- the round is refused when a walk is missing for one mandatory mark, or for all mandatory nodes and ends of mandatory arcs together
 abbrev pub Refusal : Sheet → Type 0
 Refusal S =
     ((i : ℕ) × (i < itemCount (S .graph)) × (isMandatory S i ≡ true) × NoWalkOn S (i ∷ []))
     ⊎ NoWalkOn S (demandedNodes S)
+
+-- a node is demanded where it is mandatory or an end of a mandatory arc
+pub is-demanded : (S : Sheet) (p : ℕ) → p < S .graph .nodes → (isMandatory S p ≡ true) ⊎ (endsMandatory S p (allArcs (S .graph)) ≡ true)
+    → member p (demandedNodes S) ≡ true
+unfolding demandedNodes allNodes
+is-demanded S p h d =
+    member-keep (λ q. isMandatory S q || endsMandatory S q (allArcs (S .graph))) p (allNodes (S .graph))
+    (member-span (S .graph .nodes) 0 p (omega arith) (omega arith)) (either d)
+  where
+    either : (isMandatory S p ≡ true) ⊎ (endsMandatory S p (allArcs (S .graph)) ≡ true) → (isMandatory S p || endsMandatory S p (allArcs (S .graph))) ≡ true
+    either (inl q) = rw q
+    either (inr q) = true-or (isMandatory S p) (endsMandatory S p (allArcs (S .graph))) q
+
+pub required-demanded : (S : Sheet) (p : ℕ) → member p (required S) ≡ true → member p (demandedNodes S) ≡ true
+required-demanded S p m = let r = required-is S p m in is-demanded S p (r .node) (r .demanded)
 
 -- every walk from source to target touches both, so that meeting the required nodes is meeting all demanded ones
 demanded-required : (S : Sheet) → NoWalkOn S (demandedNodes S) ↔ NoWalkOn S (required S)
@@ -68,16 +83,16 @@ demanded-required S = (λ n w e. n w (more w e), λ n w e. n w (fewer w e))
 
     fewer : (w : List ℕ) → fit (S .graph) (isForbidden S) (demandedNodes S) (S .source) (S .target) w ≡ true
         → fit (S .graph) (isForbidden S) (required S) (S .source) (S .target) w ≡ true
-    fewer w e = fit-narrower (S .graph) (isForbidden S) (isForbidden S) (demandedNodes S) (required S) (S .source) (S .target) w (λ i h o. o) inside e
-      where
-        either : (p : ℕ) → (isMandatory S p ≡ true) ⊎ (endsMandatory S p (allArcs (S .graph)) ≡ true) → demanded p ≡ true
-        either p (inl q) = rw q
-        either p (inr q) = true-or (isMandatory S p) (endsMandatory S p (allArcs (S .graph))) q
+    fewer w e =
+        fit-narrower (S .graph) (isForbidden S) (isForbidden S) (demandedNodes S) (required S) (S .source) (S .target) w (λ i h o. o) (required-demanded S) e
 
-        inside : (p : ℕ) → member p (required S) ≡ true → member p (demandedNodes S) ≡ true
-        inside p m =
-            let r = required-is S p m in
-            member-keep demanded p (allNodes (S .graph)) (member-span (S .graph .nodes) 0 p (omega arith) (omega (arith, r .node))) (either p (r .demanded))
+-- where some walk meets all required nodes, some walk meets all demanded ones
+pub demanded-met : (S : Sheet) → fitsSheet S (required S) ≡ true → fitsSheet S (demandedNodes S) ≡ true
+demanded-met S e = go (true-or-false (fitsSheet S (demandedNodes S)))
+  where
+    go : (fitsSheet S (demandedNodes S) ≡ true) ⊎ (fitsSheet S (demandedNodes S) ≡ false) → fitsSheet S (demandedNodes S) ≡ true
+    go (inl q) = q
+    go (inr q) = absurd (true≢false (sym e ∙ none-sheet S (required S) (demanded-required S .0 (sheet-none S (demandedNodes S) q))))
 
 -- where the verdict is not 0, a walk is missing, and the other way
 refusal-is : (S : Sheet) → (verdict S .number ≡ 0 → ⊥) → Refusal S
