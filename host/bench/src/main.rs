@@ -83,7 +83,7 @@ fn compare(all: &[Timed], standard: &Standard, lent: &mut Lent) {
         })
         .collect();
     assert!(answers.iter().all(|answer| *answer == answers[0]), "{}", standard.name);
-    assert!(answers[0].0 < 65_536, "{} is refused with {}", standard.name, answers[0].0 / 65_536);
+    assert_eq!(answers[0].0 / 65_536, standard.refusal, "{}", standard.name);
 }
 
 /// The medians, in microseconds.

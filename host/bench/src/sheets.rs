@@ -23,6 +23,8 @@ pub struct Standard {
     pub name: String,
     pub sheet: Vec<u8>,
     pub operation: Operation,
+    /// The refusal number that it draws, 0 where the call finishes.
+    pub refusal: u32,
 }
 
 const NODES: usize = 64;
@@ -39,6 +41,22 @@ fn full(seed: u64) -> Sheet {
         })
         .collect();
     Sheet::new(NODES as u32, 0, NODES as u32 - 1, 0, &arcs)
+}
+
+/// A bakery's everyday sheet: 12 nodes, 40 arcs, three of the nodes mandatory, two arcs forbidden, and time to spare.
+fn everyday() -> Sheet {
+    let mut random = Random::new(3);
+    let arcs: Vec<[u32; 3]> = (0..40)
+        .map(|arc| {
+            let tail = if arc < 12 { arc } else { random.below(12) };
+            let step = if arc < 12 { 1 } else { random.between(1, 11) };
+            [tail as u32, ((tail + step) % 12) as u32, random.between(2, 25) as u32]
+        })
+        .collect();
+    let sheet = Sheet::new(12, 0, 11, 0, &arcs);
+    let sheet = [2, 5, 8].iter().fold(sheet, |sheet, &node| sheet.with_mark(node, MANDATORY));
+    let sheet = [12 + 20, 12 + 30].iter().fold(sheet, |sheet, &item| sheet.with_mark(item, FORBIDDEN));
+    sheet.with_limit(least_length(&sheet) * 5 / 4)
 }
 
 /// Eight mandatory nodes.
@@ -112,16 +130,20 @@ fn pass(name: &str, sheet: &Sheet, expected: u8) -> Standard {
         (closed, Some(slip)) => format!("{name}, {closed} closures: verdict {expected}, {} reasons", slip.reasons.len()),
         _ => format!("{name}: verdict {expected}"),
     };
-    Standard { name, sheet: sheet.bytes(), operation: Operation::Pass }
+    Standard { name, sheet: sheet.bytes(), operation: Operation::Pass, refusal: 0 }
+}
+
+fn refused(name: &str, sheet: Vec<u8>, refusal: u32) -> Standard {
+    Standard { name: format!("{name}: refused {refusal}"), sheet, operation: Operation::Pass, refusal }
 }
 
 fn reason(name: &str, sheet: &Sheet) -> Standard {
     let item = struck(sheet);
-    Standard { name: format!("{name}, {} closures: item {item}", closures(sheet)), sheet: sheet.bytes(), operation: Operation::Reason(item) }
+    Standard { name: format!("{name}, {} closures: item {item}", closures(sheet)), sheet: sheet.bytes(), operation: Operation::Reason(item), refusal: 0 }
 }
 
 fn check(name: &str, sheet: &Sheet, slip: Vec<u8>) -> Standard {
-    Standard { name: name.to_string(), sheet: sheet.bytes(), operation: Operation::Check(slip) }
+    Standard { name: name.to_string(), sheet: sheet.bytes(), operation: Operation::Check(slip), refusal: 0 }
 }
 
 pub fn standard() -> Vec<Standard> {
@@ -143,9 +165,12 @@ pub fn standard() -> Vec<Standard> {
     let tight = tight.with_limit(least_length(&tight));
     let b = sheet_b();
     vec![
+        refused("an empty sheet", vec![], 3),
         pass("B", &b, 0),
+        pass("an everyday sheet: 12 nodes, 40 arcs, three required, two closures", &everyday(), 0),
         pass("64 nodes, 512 arcs, none required", &free, 0),
         pass("64 nodes, 512 arcs, eight required", &eight_fit, 0),
+        pass("the same, a minute too long", &eight.with_limit(open_length - 1), 3),
         pass("64 nodes, 512 arcs, eight required", &blamed, 3),
         pass("the same, too long with all open", &too_long, 3),
         pass("64 nodes, 512 arcs, eight required", &few_blamed, 3),
