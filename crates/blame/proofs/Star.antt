@@ -8,7 +8,7 @@ use Rattle.lists.specs.Lists.{member, every, keep, add, span}
 use Rattle.verdict.specs.Accepted.{overlong, shortEnough, accepted}
 use Rattle.verdict.specs.Pass.{finished, answerOf, passOn}
 use Rattle.verdict.specs.Verdict.{fitsSheet, unmet, verdictFrom, verdict, isPruned, isForced, newMark, newMarks, reasonsFor, slipFor, passSlip}
-use Rattle.sheet.specs.Reader.{arcMinutes, arcHead, readArc, readMark, readMarks, readArcs, readLimit, readTarget, readSource, readArcCount, readSheet, complete, taken}
+use Rattle.sheet.specs.Reader.{arcMinutes, arcHead, readArc, readMark, readMarks, readArcs, headerLimit, headerTarget, headerSource, headerArcs, readHeader, readSheet, complete, taken}
 use Rattle.sheet.specs.Sheet.{markOf, isOpen, isMandatory, isForbidden, allItems, allNodes, allArcs, endsMandatory, isRequired, required}
 use Rattle.sheet.specs.Slip.{slipNumbers, slipBytes, marksBytes}
 use Rattle.varint.specs.Varint.{after, lastGroup, above, readGroups, readNumber, judged, number, several, writeGroups, writeNumber, writeNumbers}
@@ -35,5 +35,5 @@ pub star :
     × (passOn (sheetB 8 (0 ∷ 2 ∷ 0 ∷ 0 ∷ 0 ∷ 0 ∷ 0 ∷ 0 ∷ 0 ∷ [])) ≡ finished (0x01 ∷ 0x00 ∷ 0x01 ∷ 0x01 ∷ []))
     × (passOn (sheetB 8 (0 ∷ 2 ∷ 0 ∷ 0 ∷ 0 ∷ 2 ∷ 0 ∷ 0 ∷ 0 ∷ [])) ≡ finished (0x01 ∷ 0x00 ∷ 0x01 ∷ 0x05 ∷ []))
     × (passOn (sheetB 13 (0 ∷ 0 ∷ 0 ∷ 0 ∷ 0 ∷ 0 ∷ 0 ∷ 0 ∷ 1 ∷ [])) ≡ finished (0x02 ∷ 0x01 ∷ 0x08 ∷ 0x00 ∷ []))
-unfolding sheetB member every keep add span after lastGroup above readGroups readNumber judged number several writeGroups writeNumber writeNumbers lesser within noArc tailOf headOf weightOf arcItem chain items len clear meets fit begin onward chains against leastOf least fits markOf isOpen isMandatory isForbidden allItems allNodes allArcs endsMandatory isRequired required arcMinutes arcHead readArc readMark readMarks readArcs readLimit readTarget readSource readArcCount readSheet complete taken slipNumbers slipBytes marksBytes greedy reasons overlong shortEnough accepted fitsSheet unmet verdictFrom verdict isPruned isForced newMark newMarks reasonsFor slipFor passSlip answerOf passOn prunes reasonIn reasonOn
+unfolding sheetB member every keep add span after lastGroup above readGroups readNumber judged number several writeGroups writeNumber writeNumbers lesser within noArc tailOf headOf weightOf arcItem chain items len clear meets fit begin onward chains against leastOf least fits markOf isOpen isMandatory isForbidden allItems allNodes allArcs endsMandatory isRequired required arcMinutes arcHead readArc readMark readMarks readArcs headerLimit headerTarget headerSource headerArcs readHeader readSheet complete taken slipNumbers slipBytes marksBytes greedy reasons overlong shortEnough accepted fitsSheet unmet verdictFrom verdict isPruned isForced newMark newMarks reasonsFor slipFor passSlip answerOf passOn prunes reasonIn reasonOn
 star = (refl, refl, refl, refl, refl, refl, refl, refl, refl, refl, refl, refl)

@@ -16,7 +16,7 @@ use answers::Answer;
 use form::SlipForm;
 use form::SlipRead;
 use reader::SheetRead;
-use sections::Header;
+use sheet::Header;
 
 const WORK_NUMBERS: usize = 16384;
 

@@ -15,7 +15,7 @@ use Rattle.lists.proofs.AscendLaws.{ascends-distinct}
 use Rattle.lists.proofs.Pigeonhole.{pigeonhole, below-all}
 use Rattle.walks.specs.Graph.{itemCount}
 use Rattle.walks.specs.Flat.{graphOf}
-use Rattle.sections.specs.declared.Header.{Header}
+use Rattle.sheet.specs.declared.Header.{Header}
 use Rattle.sheet.specs.Sheet.{Sheet}
 use Rattle.required.specs.Held.{sheetOf, Whole}
 use Rattle.form.specs.Form.{slipFrom}

@@ -11,7 +11,7 @@ use Rattle.walks.specs.Lengths.{within}
 use Rattle.walks.specs.Graph.{closedIn, least, fits}
 use Rattle.walks.specs.Flat.{graphOf}
 use Rattle.rows.specs.Held.{held, code, atMost}
-use Rattle.sections.specs.declared.Header.{Header}
+use Rattle.sheet.specs.declared.Header.{Header}
 use Rattle.sheet.specs.Sheet.{Sheet, isOpen, isMandatory, markOf, required}
 use Rattle.fits.proofs.FitLaws.{held-within}
 use Rattle.verify.specs.Check.{isGoal}

@@ -8,7 +8,7 @@ use Rattle.lists.specs.Lists.{member}
 use Rattle.walks.specs.Graph.{closedIn}
 use Rattle.rows.specs.Net.{netOf, Proper}
 use Rattle.table.specs.Table.{GoalsFit}
-use Rattle.sections.specs.declared.Header.{Header}
+use Rattle.sheet.specs.declared.Header.{Header}
 
 -- marks of 576 items that close the listed ones and no other
 pub record Closing (reasons marks : List ℕ) : Type 0 where

@@ -14,7 +14,7 @@ ghost use Rattle.form.specs.Form.{slipFrom};
 ghost use Rattle.verify.specs.Check.{goalCount, wellFormed, isGoal};
 ghost use Rattle.claim.specs.Claim.{Closing, Asked};
 use lengths::Query;
-use sections::Header;
+use sheet::Header;
 
 const OPEN: u8 = 0;
 

@@ -8,7 +8,7 @@ use lib.ListN.{getD}
 use lib.Seq.{getD-drop}
 use lib.Dec.{leb}
 use borrow.Author.Tests.{le-leb, lt-leb}
-use Rattle.sections.specs.declared.Header.{Header}
+use Rattle.sheet.specs.declared.Header.{Header}
 use Rattle.required.specs.Held.{sheetOf}
 use Rattle.rows.proofs.ArcLaws.{item-at}
 use Rattle.rows.proofs.HeldLaws.{Held, low, high, Above, held-is}

@@ -5,7 +5,7 @@ use mathlib.Core.List.{List, _++_}
 use native.Mathlib.Omega.{arith}
 use lib.ListN.{length, take, drop, length-append, length-take, length-drop, List·getD-append}
 use lib.Seq.{take-at, drop-at}
-use Rattle.sections.specs.declared.Header.{Header}
+use Rattle.sheet.specs.declared.Header.{Header}
 use Rattle.rows.specs.Net.{netOf}
 use Rattle.rows.specs.Rows.{RowIs, RowTo}
 use Rattle.required.specs.Held.{Whole}

@@ -5,7 +5,7 @@ use mathlib.Core.List.{List}
 use lib.ListN.{length, drop}
 use Rattle.rows.specs.Net.{netOf}
 use Rattle.rows.specs.Rows.{RowIs, RowTo}
-use Rattle.sections.specs.declared.Header.{Header}
+use Rattle.sheet.specs.declared.Header.{Header}
 use Rattle.required.specs.Held.{Whole}
 
 -- the least lengths from the source, and behind them those to the target, where they keep to the limit

@@ -7,7 +7,7 @@ ghost use Rattle.verdict.specs.Verdict.{fitsSheet};
 ghost use Rattle.required.specs.Held.{sheetOf, Whole};
 ghost use Rattle.fits.specs.Rows.{Rows};
 use rows::ROW_LENGTH;
-use sections::Header;
+use sheet::Header;
 
 // Fills the row from the source and behind it the row to the target.
 pub fn fill_rows(header: Header, arcs: &[u32], marks: &[u8], rows: &mut [u32])

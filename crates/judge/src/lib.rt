@@ -12,7 +12,7 @@ ghost use Rattle.required.specs.Held.{sheetOf, Whole};
 ghost use Rattle.fits.specs.Rows.{Rows};
 ghost use Rattle.judge.specs.Judged.{Judged};
 use lengths::Query;
-use sections::Header;
+use sheet::Header;
 
 const MANDATORY: u8 = 1;
 

@@ -10,7 +10,7 @@ use lib.ListN.{length, getD, take, set, length-set}
 use lib.Seq.{getD-set-same, getD-set-other, take-suc, length-take-le, take-all}
 use lib.Dec.{eqb}
 use borrow.Author.Tests.{eqb-true, eqb-false, ne-eqb, lt-ltb, le-ltb}
-use Rattle.sections.specs.declared.Header.{Header}
+use Rattle.sheet.specs.declared.Header.{Header}
 use Rattle.lists.proofs.FrontLaws.{push-at, length-front}
 use Rattle.lists.proofs.TestLaws.{true-or-false, true-or}
 use Rattle.lists.specs.Lists.{front, pick}

@@ -8,7 +8,7 @@ ghost use Rattle.verdict.specs.Verdict.{newMark, newMarks};
 ghost use Rattle.required.specs.Held.{sheetOf, Whole};
 ghost use Rattle.fits.specs.Rows.{Rows};
 ghost use Rattle.marking.specs.Forced.{Forced};
-use sections::Header;
+use sheet::Header;
 
 const OPEN: u8 = 0;
 

@@ -5,7 +5,7 @@ use mathlib.Core.Bool.{true, false}
 use mathlib.Core.List.{List, _∷_}
 use native.Mathlib.Omega.{arith}
 use lib.ListN.{length, take}
-use Rattle.sections.specs.declared.Header.{Header}
+use Rattle.sheet.specs.declared.Header.{Header}
 use Rattle.judge.specs.declared.Verdict.{Verdict}
 use Rattle.varint.specs.Answer.{small}
 use Rattle.required.proofs.HeldLaws.{items-are, goals-at, listed-front}

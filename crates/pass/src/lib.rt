@@ -11,7 +11,7 @@ ghost use Rattle.verdict.specs.Pass.{passed};
 ghost use Rattle.required.specs.Held.{sheetOf, Whole};
 use lengths::Query;
 use reader::SheetRead;
-use sections::Header;
+use sheet::Header;
 
 // What an operation asks for: so many work numbers, and a slip of so many bytes.
 pub const WORK_NUMBERS: usize = 16384;

@@ -5,7 +5,7 @@ use mathlib.Core.List.{List, []}
 use native.Mathlib.Omega.{arith}
 use lib.ListN.{length, take}
 use lib.Seq.{take-at}
-use Rattle.sections.specs.declared.Header.{Header}
+use Rattle.sheet.specs.declared.Header.{Header}
 use Rattle.reader.specs.declared.SheetRead.the-variants.{Taken as Took, Refused}
 use Rattle.lists.specs.Lists.{front}
 use Rattle.reader.proofs.TakenLaws.{taken-begun}

@@ -12,31 +12,20 @@ use Rattle.varint.specs.Varint.{Read, got, refuse, after, several}
 use Rattle.walks.specs.Graph.{Arc}
 use Rattle.walks.specs.Flat.{flat}
 use Rattle.walks.proofs.FlatLaws.{arcs-flat, length-flat}
-use Rattle.sections.specs.declared.Header.{Header}
+use Rattle.sheet.specs.declared.Header.{Header}
 use Rattle.reader.specs.declared.SheetRead.{SheetRead}
 use Rattle.reader.specs.declared.SheetRead.the-variants.{Taken, Refused}
 use Rattle.sheet.specs.Sheet.{Sheet, required}
-use Rattle.sheet.specs.Reader.{readArc, readMark, readArcs, readMarks, complete, readLimit, readTarget, readSource, readArcCount, readSheet, taken}
+use Rattle.sheet.specs.Reader.{readArc, readMark, readArcs, readMarks, complete, readSheet, taken, readHeader}
 use Rattle.numbers.specs.Begun.{ahead, begun}
 use Rattle.numbers.proofs.SeveralLaws.{several-read}
-use Rattle.sections.specs.Sections.{headerLimit, headerTarget, headerSource, headerArcs, readHeader}
-use Rattle.reader.specs.Answer.{headerOf, answered, behind, arcsBehind, marksBehind, arcsBegun, marksBegun}
+use Rattle.reader.specs.Answer.{headerOf, answered, arcsBehind, marksBehind, arcsBegun, marksBegun}
 use Rattle.required.specs.Held.{sheetOf}
-
--- `readSheet` reads its header first
-after-after : {A B C : Type 0} (r : Read A) (f : A → List ℕ → Read B) (g : B → List ℕ → Read C) → after (after r f) g ≡ after r (λ a bs. after (f a bs) g)
-unfolding after
-after-after (got a bs) f g = refl
-after-after (refuse e) f g = refl
-
-pub sheet-header : (bs : List ℕ) → readSheet bs ≡ after (readHeader bs) behind
-unfolding after readSheet readArcCount readSource readTarget readLimit readHeader headerArcs headerSource headerTarget headerLimit
-sheet-header bs = simp after-after
 
 module _ (h : Header) (bs : List ℕ) where
   pub arcs-refused :
       {e : ℕ} → refuse e ≡ several (readArc (h .nodes)) (h .arcs) bs
-      → (Refused e ≡ answered (after (behind h bs) complete)) × (marksBehind h bs ≡ [])
+      → (Refused e ≡ answered (after (readArcs h bs) complete)) × (marksBehind h bs ≡ [])
   unfolding answered after readArcs marksBehind ahead
   arcs-refused q = (rw (← q), rw (← q))
 
@@ -53,7 +42,7 @@ module _ (h : Header) (bs : List ℕ) where
     unfolding marksBehind ahead
     marks-left = rw (← qa)
 
-    pub marks-refused : {e : ℕ} → refuse e ≡ several readMark (h .nodes + h .arcs) rest → Refused e ≡ answered (after (behind h bs) complete)
+    pub marks-refused : {e : ℕ} → refuse e ≡ several readMark (h .nodes + h .arcs) rest → Refused e ≡ answered (after (readArcs h bs) complete)
     unfolding answered after readArcs readMarks
     marks-refused q = rw (← qa, arc-count, ← q)
 
@@ -61,11 +50,11 @@ module _ (h : Header) (bs : List ℕ) where
       pub mark-count : length ms ≡ h .nodes + h .arcs
       mark-count = several-read readMark (h .nodes + h .arcs) rest ms end qm .0
 
-      all-read : after (behind h bs) complete ≡ complete (whole ms) end
+      all-read : after (readArcs h bs) complete ≡ complete (whole ms) end
       unfolding after readArcs readMarks
       all-read = rw (← qa, arc-count, ← qm)
 
-      pub bytes-left : (s : List ℕ) (at : ℕ) → end ≡ drop at s → at < length s → Refused 12 ≡ answered (after (behind h bs) complete)
+      pub bytes-left : (s : List ℕ) (at : ℕ) → end ≡ drop at s → at < length s → Refused 12 ≡ answered (after (readArcs h bs) complete)
       unfolding complete answered
       bytes-left s at e l =
           let q : complete (whole ms) end ≡ refuse 12 = rw (e, drop-cons s at 0 l) in
@@ -76,11 +65,11 @@ module _ (h : Header) (bs : List ℕ) where
         unfolding complete
         judged-whole m = rw (e, drop-of-length-le s l, ← m)
 
-        pub too-many : false ≡ leb (length (required (whole ms))) 8 → Refused 13 ≡ answered (after (behind h bs) complete)
+        pub too-many : false ≡ leb (length (required (whole ms))) 8 → Refused 13 ≡ answered (after (readArcs h bs) complete)
         unfolding answered
         too-many m = sym (ap answered (all-read ∙ judged-whole m))
 
-        pub all-taken : true ≡ leb (length (required (whole ms))) 8 → Taken h ≡ answered (after (behind h bs) complete)
+        pub all-taken : true ≡ leb (length (required (whole ms))) 8 → Taken h ≡ answered (after (readArcs h bs) complete)
         unfolding answered headerOf
         all-taken m =
             let q : headerOf (whole ms) ≡ h = rw arc-count in
@@ -109,16 +98,16 @@ module _ (s old₁ old₂ : List ℕ) where
   pub header-refused :
       {e : ℕ} → refuse e ≡ readHeader s
       → (Refused e ≡ answered (taken s)) × ((old₁ ≡ front (flat (arcsBegun s)) old₁) × (old₂ ≡ front (marksBegun s) old₂))
-  unfolding answered after taken arcsBegun marksBegun ahead flat
-  header-refused q = (rw (sheet-header s, ← q), (rw (← q), rw (← q)))
+  unfolding answered after taken readSheet arcsBegun marksBegun ahead flat
+  header-refused q = (rw (← q), (rw (← q), rw (← q)))
 
   -- what was read behind the header is the whole
   pub header-read :
-      {h : Header} {bs : List ℕ} {r : SheetRead} {a b : List ℕ} → got h bs ≡ readHeader s → r ≡ answered (after (behind h bs) complete)
+      {h : Header} {bs : List ℕ} {r : SheetRead} {a b : List ℕ} → got h bs ≡ readHeader s → r ≡ answered (after (readArcs h bs) complete)
       → a ≡ front (flat (arcsBehind h bs)) old₁ → b ≡ front (marksBehind h bs) old₂
       → (r ≡ answered (taken s)) × ((a ≡ front (flat (arcsBegun s)) old₁) × (b ≡ front (marksBegun s) old₂))
-  unfolding after taken arcsBegun marksBegun ahead
-  header-read q x y z = (rw (sheet-header s, ← q) x, (rw (← q) y, rw (← q) z))
+  unfolding after taken readSheet arcsBegun marksBegun ahead
+  header-read q x y z = (rw (← q) x, (rw (← q) y, rw (← q) z))
 
 -- the part of a list from a position to its end
 pub part-all : (s : List ℕ) (at : ℕ) → take (length s - at) (drop at s) ≡ drop at s
@@ -141,7 +130,7 @@ refused-taken p q = let z : _≡_ {A = ℕ} 0 1 = cc (ap answered q) in omega ar
 module _ {S : Sheet} {left : List ℕ} where
   marks-taken :
       (h : Header) (bs : List ℕ) {xs : List Arc} {rest : List ℕ} (qa : got xs rest ≡ several (readArc (h .nodes)) (h .arcs) bs)
-      (r : Read (List ℕ)) → r ≡ several readMark (h .nodes + h .arcs) rest → after (behind h bs) complete ≡ got S left
+      (r : Read (List ℕ)) → r ≡ several readMark (h .nodes + h .arcs) rest → after (readArcs h bs) complete ≡ got S left
       → (arcsBehind h bs ≡ S .graph .arcs) × (marksBehind h bs ≡ S .marks)
   unfolding arcsBehind
   marks-taken h bs {xs} {rest} qa (got ms end) p e =
@@ -153,15 +142,15 @@ module _ {S : Sheet} {left : List ℕ} where
 
   arcs-taken :
       (h : Header) (bs : List ℕ) (r : Read (List Arc)) → r ≡ several (readArc (h .nodes)) (h .arcs) bs
-      → after (behind h bs) complete ≡ got S left → (arcsBehind h bs ≡ S .graph .arcs) × (marksBehind h bs ≡ S .marks)
+      → after (readArcs h bs) complete ≡ got S left → (arcsBehind h bs ≡ S .graph .arcs) × (marksBehind h bs ≡ S .marks)
   arcs-taken h bs (got xs rest) p e = marks-taken h bs p (several readMark (h .nodes + h .arcs) rest) refl e
   arcs-taken h bs (refuse n) p e = absurd (refused-taken (arcs-refused h bs p .0) e)
 
   header-taken :
       (s : List ℕ) (r : Read Header) → r ≡ readHeader s → taken s ≡ got S left → (arcsBegun s ≡ S .graph .arcs) × (marksBegun s ≡ S .marks)
-  unfolding after taken arcsBegun marksBegun ahead
+  unfolding after taken readSheet arcsBegun marksBegun ahead
   header-taken s (got h bs) p e =
-      rw (← p) (arcs-taken h bs (several (readArc (h .nodes)) (h .arcs) bs) refl (rw (sheet-header s, ← p) at e))
+      rw (← p) (arcs-taken h bs (several (readArc (h .nodes)) (h .arcs) bs) refl (rw (← p) at e))
   header-taken s (refuse n) p e = absurd (refused-taken (header-refused s [] [] p .0) e)
 
   pub taken-begun : (s : List ℕ) → taken s ≡ got S left → (arcsBegun s ≡ S .graph .arcs) × (marksBegun s ≡ S .marks)

@@ -5,10 +5,9 @@ use lib.ListN.{length}
 use Rattle.varint.specs.Varint.{Read, got, refuse, several}
 use Rattle.walks.specs.Graph.{Arc}
 use Rattle.sheet.specs.Sheet.{Sheet}
-use Rattle.sheet.specs.Reader.{readArc, readMark, readArcs}
-use Rattle.sections.specs.declared.Header.{Header}
+use Rattle.sheet.specs.Reader.{readArc, readMark, readHeader}
+use Rattle.sheet.specs.declared.Header.{Header}
 use Rattle.numbers.specs.Begun.{ahead, begun}
-use Rattle.sections.specs.Sections.{readHeader}
 use Rattle.reader.specs.declared.SheetRead.{SheetRead}
 use Rattle.reader.specs.declared.SheetRead.the-variants.{Taken, Refused}
 
@@ -20,10 +19,6 @@ headerOf S =
 unfoldable pub answered : Read Sheet → SheetRead
 answered (got S rest) = Taken (headerOf S)
 answered (refuse e) = Refused e
-
--- what follows the header
-abbrev pub behind : Header → List ℕ → Read Sheet
-behind h bs = readArcs (h .nodes) (h .arcs) (h .source) (h .target) (h .limit) bs
 
 -- the arcs and the marks that were read before the first fault: these a read leaves over the fronts of the arrays; all of them where there was none
 unfoldable pub arcsBehind : Header → List ℕ → List Arc

@@ -7,12 +7,12 @@ ghost use Rattle.lists.specs.Lists.{front};
 ghost use Rattle.varint.specs.Varint.{after};
 ghost use Rattle.walks.specs.Flat.{flat};
 ghost use Rattle.sheet.specs.Sheet.{required};
-ghost use Rattle.sheet.specs.Reader.{complete, taken};
+ghost use Rattle.sheet.specs.Reader.{readArcs, complete, taken};
 ghost use Rattle.required.specs.Held.{sheetOf};
-ghost use Rattle.reader.specs.Answer.{behind, arcsBehind, marksBehind, answered, arcsBegun, marksBegun};
+ghost use Rattle.reader.specs.Answer.{arcsBehind, marksBehind, answered, arcsBegun, marksBegun};
 use numbers::Section;
-use sections::Header;
 use sections::HeaderRead;
+use sheet::Header;
 
 const REQUIRED_MOST: usize = 8;
 
@@ -36,7 +36,7 @@ pub enum SheetRead {
 // Reads the arcs and the marks of a sheet whose header was read: `section` is the part of the sheet that starts at the fifth number's end.
 fn read_behind(header: Header, section: &[u8], arcs: &mut [u32], marks: &mut [u8]) -> SheetRead
     requires { ⌜ (header .nodes ≤ 64) × (header .arcs ≤ 512) × (1536 ≤ length (now arcs)) × (576 ≤ length (now marks)) ⌝ }
-    ensures { λ r. ⌜ r ≡ answered (after (behind header (now (section .entry))) complete) ⌝ }
+    ensures { λ r. ⌜ r ≡ answered (after (readArcs header (now (section .entry))) complete) ⌝ }
     ensures { λ _. ⌜ now (arcs .exit) ≡ front (flat (arcsBehind header (now (section .entry)))) (now (arcs .entry)) ⌝ }
     ensures { λ _. ⌜ now (marks .exit) ≡ front (marksBehind header (now (section .entry))) (now (marks .entry)) ⌝ }
 {

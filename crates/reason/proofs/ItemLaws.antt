@@ -7,7 +7,7 @@ use native.Mathlib.Omega.{arith}
 use lib.ListN.{length, getD, take}
 use lib.Dec.{eqb}
 use borrow.Author.Tests.{eq-eqb, ne-eqb, lt-ltb, le-ltb}
-use Rattle.sections.specs.declared.Header.{Header}
+use Rattle.sheet.specs.declared.Header.{Header}
 use Rattle.varint.specs.Answer.{small}
 use Rattle.required.proofs.HeldLaws.{items-are, listed-front}
 use Rattle.required.specs.Held.{Whole, sheetOf}

@@ -7,7 +7,7 @@ ghost use Rattle.blame.specs.Reason.{prunes, reasoned};
 ghost use Rattle.reason.specs.Said.{Says};
 use pass::Answer;
 use reader::SheetRead;
-use sections::Header;
+use sheet::Header;
 
 const TWO_ROWS: usize = 128;
 

@@ -10,7 +10,7 @@ use Rattle.lists.specs.Lists.{front}
 use Rattle.walks.specs.Flat.{graphOf}
 use Rattle.walks.specs.Graph.{itemCount}
 use Rattle.walks.proofs.FlatLaws.{arcs-count}
-use Rattle.sections.specs.declared.Header.{Header}
+use Rattle.sheet.specs.declared.Header.{Header}
 use Rattle.required.specs.Held.{Whole}
 
 -- the items that the header counts

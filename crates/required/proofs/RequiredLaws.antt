@@ -15,7 +15,7 @@ use Rattle.lists.proofs.FrontLaws.{length-front, push-at}
 use Rattle.walks.specs.Graph.{Arc, noArc, tailOf, headOf, arcItem}
 use Rattle.walks.specs.Flat.{arcsOf, graphOf}
 use Rattle.walks.proofs.FlatLaws.{arc-in, arcs-many}
-use Rattle.sections.specs.declared.Header.{Header}
+use Rattle.sheet.specs.declared.Header.{Header}
 use Rattle.sheet.specs.Sheet.{markOf, isMandatory, endsMandatory, allArcs, isRequired}
 use Rattle.required.specs.Held.{sheetOf, Held, Ends}
 

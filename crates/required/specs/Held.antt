@@ -8,7 +8,7 @@ use Rattle.walks.specs.Flat.{graphOf}
 use Rattle.sheet.specs.Sheet.{Sheet, required, endsMandatory, allArcs}
 use Rattle.sheet.specs.Good.{Good}
 use Rattle.rows.specs.Net.{netOf, Proper}
-use Rattle.sections.specs.declared.Header.{Header}
+use Rattle.sheet.specs.declared.Header.{Header}
 
 -- the sheet that the five numbers, the arcs' numbers and the marks make
 abbrev pub sheetOf : Header → List ℕ → List ℕ → Sheet

@@ -7,7 +7,7 @@ ghost use lib.Dec.{eqb};
 ghost use Rattle.lists.specs.Lists.{front, pick};
 ghost use Rattle.sheet.specs.Sheet.{required};
 ghost use Rattle.required.specs.Held.{sheetOf, Held, Ends};
-use sections::Header;
+use sheet::Header;
 
 // The node is marked, where it is one of those that `ends` has a place for.
 fn mark_end(ends: &mut [u8], node: u32)

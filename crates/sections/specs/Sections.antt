@@ -1,34 +1,16 @@
 -- What the answers of the readers of a sheet's parts stand for in document 01.
 use Prim.Native.Nat.{ℕ, _≤_, _<_}
-use mathlib.Core.Bool.{not, _&&_}
 use mathlib.Core.List.{List}
 use lib.ListN.{length, drop}
-use lib.Dec.{eqb, ltb, leb}
-use Rattle.varint.specs.Varint.{Read, got, refuse, after, number}
+use Rattle.varint.specs.Varint.{Read, got, refuse}
 use Rattle.walks.specs.Graph.{Arc}
-use Rattle.sections.specs.declared.Header.{Header}
+use Rattle.sheet.specs.declared.Header.{Header}
 use Rattle.sections.specs.declared.HeaderRead.{HeaderRead}
 use Rattle.sections.specs.declared.HeaderRead.the-variants.{Five, Fault}
 use Rattle.sections.specs.declared.ArcRead.{ArcRead}
 use Rattle.sections.specs.declared.ArcRead.the-variants.{Found, Not}
 
--- the five numbers in front, read in the same steps as by `readSheet` (`sheet-header`)
-unfoldable pub headerLimit : ℕ → ℕ → ℕ → ℕ → List ℕ → Read Header
-headerLimit n m s t bs =
-    after (number 8 (λ x. leb x 1000000) bs) (λ k rest. got (record { nodes = n; arcs = m; source = s; target = t; limit = k }) rest)
-
-unfoldable pub headerTarget : ℕ → ℕ → ℕ → List ℕ → Read Header
-headerTarget n m s bs = after (number 7 (λ x. ltb x n && not (eqb x s)) bs) (headerLimit n m s)
-
-unfoldable pub headerSource : ℕ → ℕ → List ℕ → Read Header
-headerSource n m bs = after (number 7 (λ x. ltb x n) bs) (headerTarget n m)
-
-unfoldable pub headerArcs : ℕ → List ℕ → Read Header
-headerArcs n bs = after (number 6 (λ x. leb x 512) bs) (headerSource n)
-
-unfoldable pub readHeader : List ℕ → Read Header
-readHeader bs = after (number 5 (λ x. leb 2 x && leb x 64) bs) headerArcs
-
+-- the five numbers: the header with the bytes after it, or the refusal
 abbrev pub headerIn : List ℕ → HeaderRead → Read Header
 headerIn s (Five h next) = got h (drop next s)
 headerIn s (Fault e) = refuse e

@@ -5,11 +5,12 @@ ghost use lib.ListN.{length, drop};
 ghost use Rattle.lists.specs.Lists.{front};
 ghost use Rattle.varint.specs.Varint.{several};
 ghost use Rattle.walks.specs.Flat.{flat};
-ghost use Rattle.sheet.specs.Reader.{readArc};
+ghost use Rattle.sheet.specs.Reader.{headerSource, readHeader, readArc};
 ghost use Rattle.numbers.specs.Answer.{sectionOf};
 ghost use Rattle.numbers.specs.Begun.{begun};
-ghost use Rattle.sections.specs.Sections.{headerIn, headerSource, readHeader, HeaderFits, arcOf};
+ghost use Rattle.sections.specs.Sections.{headerIn, HeaderFits, arcOf};
 use numbers::Section;
+use sheet::Header;
 use values::Judged;
 
 const NODES_LEAST: u32 = 2;
@@ -21,15 +22,6 @@ const ARCS_END: u32 = 513;
 const LIMIT_END: u32 = 1000001;
 
 const MINUTES_END: u32 = 65536;
-
-// The five numbers in front of a sheet: n, m, start, finish and K of document 01.
-pub struct Header {
-    pub nodes: usize,
-    pub arcs: usize,
-    pub source: usize,
-    pub target: usize,
-    pub limit: u32,
-}
 
 // The five numbers and the position after them, or the refusal.
 pub enum HeaderRead {

@@ -16,7 +16,8 @@ use Rattle.varint.specs.Varint.{Read, got, after, readNumber, number, several, 
 use Rattle.walks.specs.Graph.{Graph, Arc, noArc, itemCount}
 use Rattle.sheet.proofs.SheetLaws.{Taken, several-got, got-taken, taken-got}
 use Rattle.sheet.specs.ArcView.{restOf, past, bytesOf, forArc, arcView, placeOf}
-use Rattle.sheet.specs.Reader.{arcMinutes, arcHead, readArc, readMark, readMarks, readArcs, readLimit, readTarget, readSource, readArcCount, readSheet, taken}
+use Rattle.sheet.specs.declared.Header.{Header}
+use Rattle.sheet.specs.Reader.{isNodeCount, isArcCount, isNode, isOther, isLimit, isMinutes, headerLimit, headerTarget, headerSource, headerArcs, readHeader, arcMinutes, arcHead, readArc, readMark, readMarks, readArcs, readSheet, taken}
 use Rattle.sheet.specs.Sheet.{Sheet}
 
 -- after one number
@@ -37,20 +38,20 @@ record Parts (n : ℕ) (bs : List ℕ) (x : Arc) (rest : List ℕ) : Type 0 wher
 arc-parts : (n : ℕ) (bs : List ℕ) (x : Arc) (rest : List ℕ) → readArc n bs ≡ got x rest → Parts n bs x rest
 unfolding readArc arcHead arcMinutes past
 arc-parts n bs x rest e =
-    let a = after-got (number 9 (λ x. ltb x n) bs) (arcHead n) x rest e in
-    let b = after-got (number 9 (λ x. ltb x n && not (eqb x (a .0))) (a .1)) (arcMinutes (a .0)) x rest (a .3) in
+    let a = after-got (number 9 (isNode n) bs) (arcHead n) x rest e in
+    let b = after-got (number 9 (isOther n (a .0)) (a .1)) (arcMinutes (a .0)) x rest (a .3) in
     let build : ℕ → List ℕ → Read Arc = λ w rest. got (record { tail = a .0; head = b .0; weight = w }) rest in
-    let c = after-got (number 10 (λ x. leb x 65535) (b .1)) build x rest (b .3) in
+    let c = after-got (number 10 isMinutes (b .1)) build x rest (b .3) in
     let z = got-both (record { tail = a .0; head = b .0; weight = c .0 }) x (c .1) rest (c .3) in
     let last : Front (build (c .0)) (c .1) x rest = record { bytes = []; parts = z .1; again = λ t. ap (λ (y : Arc). got y t) (z .0) } in
     record {
       front =
-          after-front (number 9 (λ x. ltb x n)) (arcHead n) bs (a .0) (a .1) x rest (judged-front 9 (λ x. ltb x n) bs (a .0) (a .1) (a .2))
-          (after-front (number 9 (λ x. ltb x n && not (eqb x (a .0)))) (arcMinutes (a .0)) (a .1) (b .0) (b .1) x rest
-          (judged-front 9 (λ x. ltb x n && not (eqb x (a .0))) (a .1) (b .0) (b .1) (b .2))
-          (after-front (number 10 (λ x. leb x 65535)) build (b .1) (c .0) (c .1) x rest (judged-front 10 (λ x. leb x 65535) (b .1) (c .0) (c .1) (c .2)) last));
+          after-front (number 9 (isNode n)) (arcHead n) bs (a .0) (a .1) x rest (judged-front 9 (isNode n) bs (a .0) (a .1) (a .2))
+          (after-front (number 9 (isOther n (a .0))) (arcMinutes (a .0)) (a .1) (b .0) (b .1) x rest
+          (judged-front 9 (isOther n (a .0)) (a .1) (b .0) (b .1) (b .2))
+          (after-front (number 10 isMinutes) build (b .1) (c .0) (c .1) x rest (judged-front 10 isMinutes (b .1) (c .0) (c .1) (c .2)) last));
       ends =
-          rw (number-past 9 (λ x. ltb x n) bs (a .0) (a .1) (a .2), number-past 9 (λ x. ltb x n && not (eqb x (a .0))) (a .1) (b .0) (b .1) (b .2), number-past 10 (λ x. leb x 65535) (b .1) (c .0) (c .1) (c .2))
+          rw (number-past 9 (isNode n) bs (a .0) (a .1) (a .2), number-past 9 (isOther n (a .0)) (a .1) (b .0) (b .1) (b .2), number-past 10 isMinutes (b .1) (c .0) (c .1) (c .2))
           (z .1);
     }
 
@@ -71,25 +72,32 @@ arc-at n (suc m) (suc l) bs xs rest h e =
     ap (readArc n) u ∙ arc-at n m l (s .1) (s .2) rest (omega arith) (s .4) ∙ ap (λ (zs : List Arc). got (getD zs (suc l) noArc) (past (3 + 3 * l) (s .1))) (sym (s .5))
     ∙ ap (got (getD xs (suc l) noArc)) (sym v)
 
--- the leg section: after the five numbers in front
+-- the five numbers in front
+header-past : (bs : List ℕ) (h : Header) (rest : List ℕ) → readHeader bs ≡ got h rest → past 5 bs ≡ rest
+unfolding readHeader headerArcs headerSource headerTarget headerLimit past
+header-past bs h rest e =
+    let a = after-got (number 5 isNodeCount bs) headerArcs h rest e in
+    let b = after-got (number 6 isArcCount (a .1)) (headerSource (a .0)) h rest (a .3) in
+    let c = after-got (number 7 (isNode (a .0)) (b .1)) (headerTarget (a .0) (b .0)) h rest (b .3) in
+    let d = after-got (number 7 (isOther (a .0) (c .0)) (c .1)) (headerLimit (a .0) (b .0) (c .0)) h rest (c .3) in
+    let k = after-got (number 8 isLimit (d .1)) (λ k rest. got (record { nodes = a .0; arcs = b .0; source = c .0; target = d .0; limit = k }) rest) h rest (d .3) in
+    let p : past 5 bs ≡ k .1 =
+    rw (number-past 5 isNodeCount bs (a .0) (a .1) (a .2), number-past 6 isArcCount (a .1) (b .0) (b .1) (b .2), number-past 7 (isNode (a .0)) (b .1) (c .0) (c .1) (c .2), number-past 7 (isOther (a .0) (c .0)) (c .1) (d .0) (d .1) (d .2), number-past 8 isLimit (d .1) (k .0) (k .1) (k .2)) in
+    p ∙ got-both (record { nodes = a .0; arcs = b .0; source = c .0; target = d .0; limit = k .0 }) h (k .1) rest (k .3) .1
+
+-- the leg section: after them
 section : (bs : List ℕ) (S : Sheet) (rest : List ℕ) → readSheet bs ≡ got S rest
     → (mid : List ℕ) × (several (readArc (S .graph .nodes)) (length (S .graph .arcs)) (past 5 bs) ≡ got (S .graph .arcs) mid)
-unfolding readSheet readArcCount readSource readTarget readLimit readArcs readMarks past
+unfolding readSheet readArcs readMarks
 section bs S rest e =
-    let a = after-got (number 5 (λ x. leb 2 x && leb x 64) bs) readArcCount S rest e in
-    let n = a .0 in
-    let b = after-got (number 6 (λ x. leb x 512) (a .1)) (readSource n) S rest (a .3) in
-    let m = b .0 in
-    let c = after-got (number 7 (λ x. ltb x n) (b .1)) (readTarget n m) S rest (b .3) in
-    let d = after-got (number 7 (λ x. ltb x n && not (eqb x (c .0))) (c .1)) (readLimit n m (c .0)) S rest (c .3) in
-    let k = after-got (number 8 (λ x. leb x 1000000) (d .1)) (readArcs n m (c .0) (d .0)) S rest (d .3) in
-    let f = after-got (several (readArc n) m (k .1)) (λ xs. readMarks (record { nodes = n; arcs = xs }) (c .0) (d .0) (k .0)) S rest (k .3) in
-    let G : Graph = record { nodes = n; arcs = f .0 } in
-    let g = after-got (several readMark (itemCount G) (f .1)) (λ ms rest. got (record { graph = G; source = c .0; target = d .0; limit = k .0; marks = ms }) rest) S rest (f .3) in
-    let z : G ≡ S .graph = ap (λ (S : Sheet). S .graph) (got-both (record { graph = G; source = c .0; target = d .0; limit = k .0; marks = g .0 }) S (g .1) rest (g .3) .0) in
-    let w : length (f .0) ≡ m = several-got (λ x. Unit {0}) (readArc n) (λ bs a rest q. tt) m (k .1) (f .0) (f .1) (f .2) .0 in
-    let p : past 5 bs ≡ k .1 =
-    rw (number-past 5 (λ x. leb 2 x && leb x 64) bs n (a .1) (a .2), number-past 6 (λ x. leb x 512) (a .1) m (b .1) (b .2), number-past 7 (λ x. ltb x n) (b .1) (c .0) (c .1) (c .2), number-past 7 (λ x. ltb x n && not (eqb x (c .0))) (c .1) (d .0) (d .1) (d .2), number-past 8 (λ x. leb x 1000000) (d .1) (k .0) (k .1) (k .2)) in
+    let a = after-got (readHeader bs) readArcs S rest e in
+    let h : Header = a .0 in
+    let f = after-got (several (readArc (h .nodes)) (h .arcs) (a .1)) (readMarks h) S rest (a .3) in
+    let G : Graph = record { nodes = h .nodes; arcs = f .0 } in
+    let g = after-got (several readMark (h .nodes + length (f .0)) (f .1)) (λ ms rest. got (record { graph = G; source = h .source; target = h .target; limit = h .limit; marks = ms }) rest) S rest (f .3) in
+    let z : G ≡ S .graph = ap (λ (S : Sheet). S .graph) (got-both (record { graph = G; source = h .source; target = h .target; limit = h .limit; marks = g .0 }) S (g .1) rest (g .3) .0) in
+    let w : length (f .0) ≡ h .arcs = several-got (λ x. Unit {0}) (readArc (h .nodes)) (λ bs a rest q. tt) (h .arcs) (a .1) (f .0) (f .1) (f .2) .0 in
+    let p : past 5 bs ≡ a .1 = header-past bs h (a .1) (a .2) in
     (f .1, subst (λ (G : Graph). several (readArc (G .nodes)) (length (G .arcs)) (past 5 bs) ≡ got (G .arcs) (f .1)) z (rw (p, w) (f .2)))
 
 -- what a view of a taken sheet shows

@@ -1,14 +1,15 @@
 -- A sheet that is not taken draws one of 3 to 13. Assumes nothing.
 use Prim.Native.Nat.{ℕ, zero, suc, _+_, _≤_}
 use mathlib.Core.Path.{_≡_}
-use mathlib.Core.Bool.{Bool, true, false, not, _&&_}
+use mathlib.Core.Bool.{Bool, true, false, _&&_}
 use mathlib.Core.List.{List, [], _∷_}
 use native.Mathlib.Omega.{arith}
 use lib.ListN.{length}
 use lib.Dec.{eqb, leb, ltb}
 use Rattle.lists.specs.Lists.{pick}
 use Rattle.varint.specs.Varint.{Read, got, refuse, after, lastGroup, above, readGroups, readNumber, judged, number, several}
-use Rattle.sheet.specs.Reader.{arcMinutes, arcHead, readArc, readMark, readMarks, readArcs, readLimit, readTarget, readSource, readArcCount, readSheet, complete, taken}
+use Rattle.sheet.specs.declared.Header.{Header}
+use Rattle.sheet.specs.Reader.{isNodeCount, isArcCount, isNode, isOther, isLimit, isMinutes, isMark, headerLimit, headerTarget, headerSource, headerArcs, readHeader, arcMinutes, arcHead, readArc, readMark, readMarks, readArcs, readSheet, complete, taken}
 use Rattle.sheet.specs.Sheet.{Sheet, required}
 
 -- the refusals of a sheet
@@ -70,28 +71,32 @@ several-refusing f p (suc k) bs =
 arc-refusing : (n : ℕ) (bs : List ℕ) → Refusing (readArc n bs)
 unfolding readArc arcHead arcMinutes
 arc-refusing n bs =
-    after-refusing (number 9 (λ x. ltb x n) bs) (arcHead n) (number-refusing 9 (λ x. ltb x n) bs (omega arith, omega arith))
-    (λ t bs₁. after-refusing (number 9 (λ x. ltb x n && not (eqb x t)) bs₁) (arcMinutes t) (number-refusing 9 (λ x. ltb x n && not (eqb x t)) bs₁ (omega arith, omega arith))
-    (λ h bs₂. after-refusing (number 10 (λ x. leb x 65535) bs₂) (λ w rest. got (record { tail = t; head = h; weight = w }) rest)
-    (number-refusing 10 (λ x. leb x 65535) bs₂ (omega arith, omega arith)) (λ w rest. tt)))
+    after-refusing (number 9 (isNode n) bs) (arcHead n) (number-refusing 9 (isNode n) bs (omega arith, omega arith))
+    (λ t bs₁. after-refusing (number 9 (isOther n t) bs₁) (arcMinutes t) (number-refusing 9 (isOther n t) bs₁ (omega arith, omega arith))
+    (λ h bs₂. after-refusing (number 10 isMinutes bs₂) (λ w rest. got (record { tail = t; head = h; weight = w }) rest)
+    (number-refusing 10 isMinutes bs₂ (omega arith, omega arith)) (λ w rest. tt)))
 
-arcs-refusing : (n m s t k : ℕ) (bs : List ℕ) → Refusing (readArcs n m s t k bs)
+arcs-refusing : (h : Header) (bs : List ℕ) → Refusing (readArcs h bs)
 unfolding readArcs readMarks readMark
-arcs-refusing n m s t k bs =
-    after-refusing (several (readArc n) m bs) (λ xs. readMarks (record { nodes = n; arcs = xs }) s t k) (several-refusing (readArc n) (arc-refusing n) m bs)
-    (λ xs bs₁. after-refusing (several readMark (n + length xs) bs₁)
-    (λ ms rest. got (record { graph = record { nodes = n; arcs = xs }; source = s; target = t; limit = k; marks = ms }) rest)
-    (several-refusing readMark (λ bs. number-refusing 11 (λ x. leb x 2) bs (omega arith, omega arith)) (n + length xs) bs₁) (λ ms rest. tt))
+arcs-refusing h bs =
+    after-refusing (several (readArc (h .nodes)) (h .arcs) bs) (readMarks h) (several-refusing (readArc (h .nodes)) (arc-refusing (h .nodes)) (h .arcs) bs)
+    (λ xs bs₁. after-refusing (several readMark (h .nodes + length xs) bs₁)
+    (λ ms rest. got (record { graph = record { nodes = h .nodes; arcs = xs }; source = h .source; target = h .target; limit = h .limit; marks = ms }) rest)
+    (several-refusing readMark (λ bs. number-refusing 11 isMark bs (omega arith, omega arith)) (h .nodes + length xs) bs₁) (λ ms rest. tt))
+
+header-refusing : (bs : List ℕ) → Refusing (readHeader bs)
+unfolding readHeader headerArcs headerSource headerTarget headerLimit
+header-refusing bs =
+    after-refusing (number 5 isNodeCount bs) headerArcs (number-refusing 5 isNodeCount bs (omega arith, omega arith))
+    (λ n bs₁. after-refusing (number 6 isArcCount bs₁) (headerSource n) (number-refusing 6 isArcCount bs₁ (omega arith, omega arith))
+    (λ m bs₂. after-refusing (number 7 (isNode n) bs₂) (headerTarget n m) (number-refusing 7 (isNode n) bs₂ (omega arith, omega arith))
+    (λ s bs₃. after-refusing (number 7 (isOther n s) bs₃) (headerLimit n m s) (number-refusing 7 (isOther n s) bs₃ (omega arith, omega arith))
+    (λ t bs₄. after-refusing (number 8 isLimit bs₄) (λ k rest. got (record { nodes = n; arcs = m; source = s; target = t; limit = k }) rest)
+    (number-refusing 8 isLimit bs₄ (omega arith, omega arith)) (λ k rest. tt)))))
 
 sheet-refusing : (bs : List ℕ) → Refusing (readSheet bs)
-unfolding readSheet readArcCount readSource readTarget readLimit
-sheet-refusing bs =
-    after-refusing (number 5 (λ x. leb 2 x && leb x 64) bs) readArcCount (number-refusing 5 (λ x. leb 2 x && leb x 64) bs (omega arith, omega arith))
-    (λ n bs₁. after-refusing (number 6 (λ x. leb x 512) bs₁) (readSource n) (number-refusing 6 (λ x. leb x 512) bs₁ (omega arith, omega arith))
-    (λ m bs₂. after-refusing (number 7 (λ x. ltb x n) bs₂) (readTarget n m) (number-refusing 7 (λ x. ltb x n) bs₂ (omega arith, omega arith))
-    (λ s bs₃. after-refusing (number 7 (λ x. ltb x n && not (eqb x s)) bs₃) (readLimit n m s) (number-refusing 7 (λ x. ltb x n && not (eqb x s)) bs₃ (omega arith, omega arith))
-    (λ t bs₄. after-refusing (number 8 (λ x. leb x 1000000) bs₄) (readArcs n m s t) (number-refusing 8 (λ x. leb x 1000000) bs₄ (omega arith, omega arith))
-    (λ k bs₅. arcs-refusing n m s t k bs₅)))))
+unfolding readSheet
+sheet-refusing bs = after-refusing (readHeader bs) readArcs (header-refusing bs) arcs-refusing
 
 complete-refusing : (S : Sheet) (bs : List ℕ) → Refusing (complete S bs)
 unfolding complete

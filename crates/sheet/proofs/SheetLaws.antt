@@ -13,7 +13,8 @@ use Rattle.varint.proofs.VarintLaws.{after-got, number-got, got-both, several-f
 use Rattle.varint.specs.Varint.{Read, got, refuse, after, number, several}
 use Rattle.walks.specs.Graph.{Graph, Arc, noArc, tailOf, headOf, weightOf}
 use Rattle.sheet.specs.Good.{Good, GoodArc, All}
-use Rattle.sheet.specs.Reader.{arcMinutes, arcHead, readArc, readMark, readMarks, readArcs, readLimit, readTarget, readSource, readArcCount, readSheet, complete, taken}
+use Rattle.sheet.specs.declared.Header.{Header}
+use Rattle.sheet.specs.Reader.{isNodeCount, isArcCount, isNode, isOther, isLimit, isMinutes, isMark, headerLimit, headerTarget, headerSource, headerArcs, readHeader, arcMinutes, arcHead, readArc, readMark, readMarks, readArcs, readSheet, complete, taken}
 use Rattle.sheet.specs.Sheet.{Sheet, markOf, required}
 
 pub several-got : {A : Type 0} (P : A → Type 0) (f : List ℕ → Read A) → ((bs : List ℕ) (a : A) (rest : List ℕ) → f bs ≡ got a rest → P a)
@@ -28,42 +29,84 @@ several-got P f h (suc k) bs xs rest e =
 minutes-got : (n t h : ℕ) → t < n → h < n → (h ≡ t → ⊥) → (bs : List ℕ) (x : Arc) (rest : List ℕ) → arcMinutes t h bs ≡ got x rest → GoodArc n x
 unfolding arcMinutes
 minutes-got n t h ht hh ne bs x rest e =
-    let a = after-got (number 10 (λ x. leb x 65535) bs) (λ w rest. got (record { tail = t; head = h; weight = w }) rest) x rest e in
+    let a = after-got (number 10 isMinutes bs) (λ w rest. got (record { tail = t; head = h; weight = w }) rest) x rest e in
     let z : record { tail = t; head = h; weight = a .0 } ≡ x = got-both (record { tail = t; head = h; weight = a .0 }) x (a .1) rest (a .3) .0 in
     subst (λ (x : Arc). GoodArc n x) z
-    (record { tail = ht; head = hh; loopless = ne; weight = leb-true (a .0) 65535 (number-got 10 (λ x. leb x 65535) bs (a .0) (a .1) (a .2) .0) })
+    (record { tail = ht; head = hh; loopless = ne; weight = leb-true (a .0) 65535 (number-got 10 isMinutes bs (a .0) (a .1) (a .2) .0) })
 
 head-got : (n t : ℕ) → t < n → (bs : List ℕ) (x : Arc) (rest : List ℕ) → arcHead n t bs ≡ got x rest → GoodArc n x
 unfolding arcHead
 head-got n t ht bs x rest e =
-    let a = after-got (number 9 (λ x. ltb x n && not (eqb x t)) bs) (arcMinutes t) x rest e in
-    let p = and-true (ltb (a .0) n) (not (eqb (a .0) t)) (number-got 9 (λ x. ltb x n && not (eqb x t)) bs (a .0) (a .1) (a .2) .0) in
+    let a = after-got (number 9 (isOther n t) bs) (arcMinutes t) x rest e in
+    let p = and-true (ltb (a .0) n) (not (eqb (a .0) t)) (number-got 9 (isOther n t) bs (a .0) (a .1) (a .2) .0) in
     minutes-got n t (a .0) ht (ltb-true (a .0) n (p .0)) (eqb-false (a .0) t (not-true (eqb (a .0) t) (p .1))) (a .1) x rest (a .3)
 
 pub arc-got : (n : ℕ) (bs : List ℕ) (x : Arc) (rest : List ℕ) → readArc n bs ≡ got x rest → GoodArc n x
 unfolding readArc
 arc-got n bs x rest e =
-    let a = after-got (number 9 (λ x. ltb x n) bs) (arcHead n) x rest e in
-    head-got n (a .0) (ltb-true (a .0) n (number-got 9 (λ x. ltb x n) bs (a .0) (a .1) (a .2) .0)) (a .1) x rest (a .3)
+    let a = after-got (number 9 (isNode n) bs) (arcHead n) x rest e in
+    head-got n (a .0) (ltb-true (a .0) n (number-got 9 (isNode n) bs (a .0) (a .1) (a .2) .0)) (a .1) x rest (a .3)
 
 -- what the five numbers in front say
-record Header (n m s t k : ℕ) : Type 0 where
-  low : 2 ≤ n
-  nodes : n ≤ 64
-  arcs : m ≤ 512
-  source : s < n
-  target : t < n
-  apart : t ≡ s → ⊥
-  limit : k ≤ 1000000
+pub record GoodHeader (h : Header) : Type 0 where
+  pub low : 2 ≤ h .nodes
+  pub nodes : h .nodes ≤ 64
+  pub arcs : h .arcs ≤ 512
+  pub source : h .source < h .nodes
+  pub target : h .target < h .nodes
+  pub apart : h .target ≡ h .source → ⊥
+  pub limit : h .limit ≤ 1000000
 
-marks-got : (n m s t k : ℕ) → Header n m s t k → (xs : List Arc) → length xs ≡ m → All (GoodArc n) xs → (bs : List ℕ) (S : Sheet) (rest : List ℕ)
-    → readMarks (record { nodes = n; arcs = xs }) s t k bs ≡ got S rest → Good S
+limit-got : (n m s t : ℕ) → 2 ≤ n → n ≤ 64 → m ≤ 512 → s < n → t < n → (t ≡ s → ⊥) → (bs : List ℕ) (h : Header) (rest : List ℕ)
+    → headerLimit n m s t bs ≡ got h rest → GoodHeader h
+unfolding headerLimit
+limit-got n m s t h₁ h₂ h₃ h₄ h₅ h₆ bs h rest e =
+    let a = after-got (number 8 isLimit bs) (λ k rest. got (record { nodes = n; arcs = m; source = s; target = t; limit = k }) rest) h rest e in
+    subst (λ (h : Header). GoodHeader h) (got-both (record { nodes = n; arcs = m; source = s; target = t; limit = a .0 }) h (a .1) rest (a .3) .0)
+    (record {
+      low = h₁;
+      nodes = h₂;
+      arcs = h₃;
+      source = h₄;
+      target = h₅;
+      apart = h₆;
+      limit = leb-true (a .0) 1000000 (number-got 8 isLimit bs (a .0) (a .1) (a .2) .0);
+    })
+
+target-got : (n m s : ℕ) → 2 ≤ n → n ≤ 64 → m ≤ 512 → s < n → (bs : List ℕ) (h : Header) (rest : List ℕ) → headerTarget n m s bs ≡ got h rest → GoodHeader h
+unfolding headerTarget
+target-got n m s h₁ h₂ h₃ h₄ bs h rest e =
+    let a = after-got (number 7 (isOther n s) bs) (headerLimit n m s) h rest e in
+    let p = and-true (ltb (a .0) n) (not (eqb (a .0) s)) (number-got 7 (isOther n s) bs (a .0) (a .1) (a .2) .0) in
+    limit-got n m s (a .0) h₁ h₂ h₃ h₄ (ltb-true (a .0) n (p .0)) (eqb-false (a .0) s (not-true (eqb (a .0) s) (p .1))) (a .1) h rest (a .3)
+
+source-got : (n m : ℕ) → 2 ≤ n → n ≤ 64 → m ≤ 512 → (bs : List ℕ) (h : Header) (rest : List ℕ) → headerSource n m bs ≡ got h rest → GoodHeader h
+unfolding headerSource
+source-got n m h₁ h₂ h₃ bs h rest e =
+    let a = after-got (number 7 (isNode n) bs) (headerTarget n m) h rest e in
+    target-got n m (a .0) h₁ h₂ h₃ (ltb-true (a .0) n (number-got 7 (isNode n) bs (a .0) (a .1) (a .2) .0)) (a .1) h rest (a .3)
+
+count-got : (n : ℕ) → 2 ≤ n → n ≤ 64 → (bs : List ℕ) (h : Header) (rest : List ℕ) → headerArcs n bs ≡ got h rest → GoodHeader h
+unfolding headerArcs
+count-got n h₁ h₂ bs h rest e =
+    let a = after-got (number 6 isArcCount bs) (headerSource n) h rest e in
+    source-got n (a .0) h₁ h₂ (leb-true (a .0) 512 (number-got 6 isArcCount bs (a .0) (a .1) (a .2) .0)) (a .1) h rest (a .3)
+
+pub header-good : (bs : List ℕ) (h : Header) (rest : List ℕ) → readHeader bs ≡ got h rest → GoodHeader h
+unfolding readHeader
+header-good bs h rest e =
+    let a = after-got (number 5 isNodeCount bs) headerArcs h rest e in
+    let p = and-true (leb 2 (a .0)) (leb (a .0) 64) (number-got 5 isNodeCount bs (a .0) (a .1) (a .2) .0) in
+    count-got (a .0) (leb-true 2 (a .0) (p .0)) (leb-true (a .0) 64 (p .1)) (a .1) h rest (a .3)
+
+marks-got : (h : Header) → GoodHeader h → (xs : List Arc) → length xs ≡ h .arcs → All (GoodArc (h .nodes)) xs → (bs : List ℕ) (S : Sheet) (rest : List ℕ)
+    → readMarks h xs bs ≡ got S rest → Good S
 unfolding readMarks readMark
-marks-got n m s t k H xs c g bs S rest e =
-    let G : Graph = record { nodes = n; arcs = xs } in
-    let a = after-got (several readMark (n + length xs) bs) (λ ms rest. got (record { graph = G; source = s; target = t; limit = k; marks = ms }) rest) S rest e in
-    let w = several-got (λ x. x ≤ 2) readMark (λ bs x rest q. leb-true x 2 (number-got 11 (λ x. leb x 2) bs x rest q .0)) (n + length xs) bs (a .0) (a .1) (a .2) in
-    subst (λ (S : Sheet). Good S) (got-both (record { graph = G; source = s; target = t; limit = k; marks = a .0 }) S (a .1) rest (a .3) .0)
+marks-got h H xs c g bs S rest e =
+    let G : Graph = record { nodes = h .nodes; arcs = xs } in
+    let a = after-got (several readMark (h .nodes + length xs) bs) (λ ms rest. got (record { graph = G; source = h .source; target = h .target; limit = h .limit; marks = ms }) rest) S rest e in
+    let w = several-got (λ x. x ≤ 2) readMark (λ bs x rest q. leb-true x 2 (number-got 11 isMark bs x rest q .0)) (h .nodes + length xs) bs (a .0) (a .1) (a .2) in
+    subst (λ (S : Sheet). Good S) (got-both (record { graph = G; source = h .source; target = h .target; limit = h .limit; marks = a .0 }) S (a .1) rest (a .3) .0)
     (record {
       low = H .low;
       nodes = H .nodes;
@@ -77,46 +120,18 @@ marks-got n m s t k H xs c g bs S rest e =
       mark = w .1;
     })
 
-arcs-got : (n m s t k : ℕ) → Header n m s t k → (bs : List ℕ) (S : Sheet) (rest : List ℕ) → readArcs n m s t k bs ≡ got S rest → Good S
+arcs-got : (h : Header) → GoodHeader h → (bs : List ℕ) (S : Sheet) (rest : List ℕ) → readArcs h bs ≡ got S rest → Good S
 unfolding readArcs
-arcs-got n m s t k H bs S rest e =
-    let a = after-got (several (readArc n) m bs) (λ xs. readMarks (record { nodes = n; arcs = xs }) s t k) S rest e in
-    let w = several-got (GoodArc n) (readArc n) (arc-got n) m bs (a .0) (a .1) (a .2) in
-    marks-got n m s t k H (a .0) (w .0) (w .1) (a .1) S rest (a .3)
-
-limit-got : (n m s t : ℕ) → ((k : ℕ) → k ≤ 1000000 → Header n m s t k) → (bs : List ℕ) (S : Sheet) (rest : List ℕ) → readLimit n m s t bs ≡ got S rest → Good S
-unfolding readLimit
-limit-got n m s t H bs S rest e =
-    let a = after-got (number 8 (λ x. leb x 1000000) bs) (readArcs n m s t) S rest e in
-    arcs-got n m s t (a .0) (H (a .0) (leb-true (a .0) 1000000 (number-got 8 (λ x. leb x 1000000) bs (a .0) (a .1) (a .2) .0))) (a .1) S rest (a .3)
-
-target-got : (n m s : ℕ) → 2 ≤ n → n ≤ 64 → m ≤ 512 → s < n → (bs : List ℕ) (S : Sheet) (rest : List ℕ) → readTarget n m s bs ≡ got S rest → Good S
-unfolding readTarget
-target-got n m s h₁ h₂ h₃ h₄ bs S rest e =
-    let a = after-got (number 7 (λ x. ltb x n && not (eqb x s)) bs) (readLimit n m s) S rest e in
-    let p = and-true (ltb (a .0) n) (not (eqb (a .0) s)) (number-got 7 (λ x. ltb x n && not (eqb x s)) bs (a .0) (a .1) (a .2) .0) in
-    limit-got n m s (a .0)
-    (λ k h₅. record { low = h₁; nodes = h₂; arcs = h₃; source = h₄; target = ltb-true (a .0) n (p .0); apart = eqb-false (a .0) s (not-true (eqb (a .0) s) (p .1)); limit = h₅ })
-    (a .1) S rest (a .3)
-
-source-got : (n m : ℕ) → 2 ≤ n → n ≤ 64 → m ≤ 512 → (bs : List ℕ) (S : Sheet) (rest : List ℕ) → readSource n m bs ≡ got S rest → Good S
-unfolding readSource
-source-got n m h₁ h₂ h₃ bs S rest e =
-    let a = after-got (number 7 (λ x. ltb x n) bs) (readTarget n m) S rest e in
-    target-got n m (a .0) h₁ h₂ h₃ (ltb-true (a .0) n (number-got 7 (λ x. ltb x n) bs (a .0) (a .1) (a .2) .0)) (a .1) S rest (a .3)
-
-count-got : (n : ℕ) → 2 ≤ n → n ≤ 64 → (bs : List ℕ) (S : Sheet) (rest : List ℕ) → readArcCount n bs ≡ got S rest → Good S
-unfolding readArcCount
-count-got n h₁ h₂ bs S rest e =
-    let a = after-got (number 6 (λ x. leb x 512) bs) (readSource n) S rest e in
-    source-got n (a .0) h₁ h₂ (leb-true (a .0) 512 (number-got 6 (λ x. leb x 512) bs (a .0) (a .1) (a .2) .0)) (a .1) S rest (a .3)
+arcs-got h H bs S rest e =
+    let a = after-got (several (readArc (h .nodes)) (h .arcs) bs) (readMarks h) S rest e in
+    let w = several-got (GoodArc (h .nodes)) (readArc (h .nodes)) (arc-got (h .nodes)) (h .arcs) bs (a .0) (a .1) (a .2) in
+    marks-got h H (a .0) (w .0) (w .1) (a .1) S rest (a .3)
 
 pub sheet-good : (bs : List ℕ) (S : Sheet) (rest : List ℕ) → readSheet bs ≡ got S rest → Good S
 unfolding readSheet
 sheet-good bs S rest e =
-    let a = after-got (number 5 (λ x. leb 2 x && leb x 64) bs) readArcCount S rest e in
-    let p = and-true (leb 2 (a .0)) (leb (a .0) 64) (number-got 5 (λ x. leb 2 x && leb x 64) bs (a .0) (a .1) (a .2) .0) in
-    count-got (a .0) (leb-true 2 (a .0) (p .0)) (leb-true (a .0) 64 (p .1)) (a .1) S rest (a .3)
+    let a = after-got (readHeader bs) readArcs S rest e in
+    arcs-got (a .0) (header-good bs (a .0) (a .1) (a .2)) (a .1) S rest (a .3)
 
 -- a sheet is taken exactly when it is read with nothing left and at most eight nodes are required
 pub record Taken (bs : List ℕ) (S : Sheet) : Type 0 where

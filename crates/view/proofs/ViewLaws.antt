@@ -12,7 +12,7 @@ use Rattle.varint.specs.Varint.{Read, got, refuse, after, lastGroup, above, rea
 use Rattle.sheet.specs.Sheet.{Sheet}
 use Rattle.sheet.specs.Reader.{taken}
 use Rattle.sheet.specs.ArcView.{restOf, past, bytesOf, forArc, arcView, placeOf}
-use Rattle.sections.specs.declared.Header.{Header}
+use Rattle.sheet.specs.declared.Header.{Header}
 use Rattle.reader.specs.declared.SheetRead.the-variants.{Taken, Refused}
 use Rattle.reader.specs.Answer.{headerOf, answered}
 

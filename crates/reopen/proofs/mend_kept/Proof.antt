@@ -4,13 +4,12 @@ use mathlib.Core.Path.{_≡_, refl, sym, ap, _∙_}
 use native.Mathlib.Omega.{arith}
 use borrow.Author.Needs.{needs}
 use borrow.Rule.Slice.PartMut.{mid-len, same-len-mid, postOf}
-use lib.ListN.{length, drop}
+use lib.ListN.{length, drop, take, length-drop}
 use lib.Seq.{length-take-le, take-all}
 use Rattle.rows.specs.Rows.{RowIs, rowAt}
 use Rattle.reopen.specs.Openings.{left, mended}
 use Rattle.reopen.proofs.SavesLaws.{part-row, row-kept, row-there, row-written}
 use borrow.Author.Tests.{not-true, not-false}
-use lib.ListN.{take, length-drop}
 use mathlib.Core.List.{List}
 use Rattle.reopen.proofs.mend_kept.Statement.{statement}
 use Rattle.reopen.proofs.mend_kept.Tie as tie
