@@ -8,11 +8,11 @@ use Rattle.varint.specs.Varint.{got, refuse}
 use Rattle.walks.specs.Graph.{fits}
 use Rattle.sheet.specs.Sheet.{Sheet, isForbidden}
 use Rattle.sheet.specs.Slip.{Slip}
-use Rattle.form.specs.Form.{slipFrom}
-use Rattle.claim.proofs.FormLaws.{and-assoc}
-use Rattle.verify.specs.Check.{wellFormed, isGoal, holds, judgedOn}
-use Rattle.answers.specs.declared.Answer.{Answer}
-use Rattle.answers.specs.Answer.{answerOf}
+use Rattle.slip_reader.specs.Form.{slipFrom}
+use Rattle.check_claim.proofs.FormLaws.{and-assoc}
+use Rattle.check_rules.specs.Check.{wellFormed, isGoal, holds, judgedOn}
+use Rattle.check_answer.specs.declared.Answer.{Answer}
+use Rattle.check_answer.specs.Answer.{answerOf}
 
 module _ (S : Sheet) (s : Slip) where
   -- 18 where the slip is not well formed

@@ -12,14 +12,14 @@ use Rattle.sheet.specs.Sheet.{Sheet}
 use Rattle.sheet.specs.Slip.{Slip, readSlip, slipGoals, as17}
 use Rattle.sheet.specs.Reader.{taken}
 use Rattle.sheet.specs.Lent.{workNumbers, zeros, zeroed, workAfter}
-use Rattle.form.specs.Form.{slipOf}
-use Rattle.form.specs.declared.SlipForm.{SlipForm}
-use Rattle.form.specs.declared.SlipRead.{SlipRead}
-use Rattle.form.specs.declared.SlipRead.the-variants.{Formed, Unformed}
-use Rattle.verdict.proofs.AcceptedLaws.{accepted-taken}
-use Rattle.verify.specs.Check.{wellFormed, holds, judgedOn, checkOn, Outcome, outcome, checked}
-use Rattle.answers.specs.declared.Answer.{Answer}
-use Rattle.answers.specs.Answer.{answerOf}
+use Rattle.slip_reader.specs.Form.{slipOf}
+use Rattle.slip_reader.specs.declared.SlipForm.{SlipForm}
+use Rattle.slip_reader.specs.declared.SlipRead.{SlipRead}
+use Rattle.slip_reader.specs.declared.SlipRead.the-variants.{Formed, Unformed}
+use Rattle.pass_rules.proofs.AcceptedLaws.{accepted-taken}
+use Rattle.check_rules.specs.Check.{wellFormed, holds, judgedOn, checkOn, Outcome, outcome, checked}
+use Rattle.check_answer.specs.declared.Answer.{Answer}
+use Rattle.check_answer.specs.Answer.{answerOf}
 use Rattle.checker.specs.Written.{formOf}
 use Rattle.sheet.proofs.RefusalLaws.{taken-refuses}
 

@@ -2,8 +2,8 @@
 use Prim.Native.Nat.{ℕ}
 use mathlib.Core.List.{List}
 use Rattle.sheet.specs.Slip.{Slip}
-use Rattle.form.specs.Form.{slipFrom, valuesAt}
-use Rattle.form.specs.declared.SlipForm.{SlipForm}
+use Rattle.slip_reader.specs.Form.{slipFrom, valuesAt}
+use Rattle.slip_reader.specs.declared.SlipForm.{SlipForm}
 
 -- a slip that is well written: its first number, its goals and its reasons
 abbrev pub formOf : List ℕ → SlipForm → Slip

@@ -6,17 +6,17 @@ ghost use lib.ListN.{length, drop};
 ghost use Rattle.varint.specs.Varint.{after};
 ghost use Rattle.sheet.specs.Slip.{readSlip};
 ghost use Rattle.sheet.specs.Lent.{zeroed};
-ghost use Rattle.required.specs.Held.{sheetOf, Whole};
-ghost use Rattle.form.specs.Form.{SlipCounts};
-ghost use Rattle.form.specs.declared.SlipRead.the-variants.{Formed};
-ghost use Rattle.verify.specs.Check.{judgedOn, checked};
-ghost use Rattle.answers.specs.Answer.{answerOf};
+ghost use Rattle.sheet_required.specs.Held.{sheetOf, Whole};
+ghost use Rattle.slip_reader.specs.Form.{SlipCounts};
+ghost use Rattle.slip_reader.specs.declared.SlipRead.the-variants.{Formed};
+ghost use Rattle.check_rules.specs.Check.{judgedOn, checked};
+ghost use Rattle.check_answer.specs.Answer.{answerOf};
 ghost use Rattle.checker.specs.Written.{formOf};
-use answers::Answer;
-use form::SlipForm;
-use form::SlipRead;
-use reader::SheetRead;
+use check_answer::Answer;
 use sheet::Header;
+use sheet_reader::SheetRead;
+use slip_reader::SlipForm;
+use slip_reader::SlipRead;
 
 const WORK_NUMBERS: usize = 16384;
 
@@ -46,13 +46,13 @@ fn judge_lists(
     numbers::numbers_at(slip, form.reasons_at, reason_count, &mut reason_list);
     let goals = &goal_list[..goal_count];
     let reasons = &reason_list[..reason_count];
-    if !claim::well_formed(header, first, goals, reasons) {
-        return answers::refused(18);
+    if !check_claim::well_formed(header, first, goals, reasons) {
+        return check_answer::refused(18);
     }
-    if !claim::kinds_hold(header, arcs, marks, first, goals, reasons) {
-        return answers::judged(false);
+    if !check_claim::kinds_hold(header, arcs, marks, first, goals, reasons) {
+        return check_answer::judged(false);
     }
-    answers::judged(!claim::fits_goals(header, arcs, goals, reasons, work))
+    check_answer::judged(!check_claim::fits_goals(header, arcs, goals, reasons, work))
 }
 
 // Judges a slip that is well written: 18, or yes or no. A list that is longer than any that is well formed is not read.
@@ -69,10 +69,10 @@ fn judge_form(
     ensures { λ _. ⌜ drop 16384 (now (work .exit)) ≡ drop 16384 (now (work .entry)) ⌝ }
 {
     if form.goals as usize > GOALS {
-        return answers::refused(18);
+        return check_answer::refused(18);
     }
     if form.reasons as usize > header.nodes + header.arcs {
-        return answers::refused(18);
+        return check_answer::refused(18);
     }
     judge_lists(header, arcs, marks, slip, form, work)
 }
@@ -83,9 +83,9 @@ fn judge(header: Header, arcs: &[u32], marks: &[u8], slip: &[u8], work: &mut [u3
     ensures { λ r. ⌜ r ≡ answerOf (after (readSlip (now (slip .entry))) (judgedOn (sheetOf header (now (arcs .entry)) (now (marks .entry))))) ⌝ }
     ensures { λ _. ⌜ drop 16384 (now (work .exit)) ≡ drop 16384 (now (work .entry)) ⌝ }
 {
-    match form::judge_slip(slip) {
+    match slip_reader::judge_slip(slip) {
         SlipRead::Formed(form) => judge_form(header, arcs, marks, slip, form, work),
-        SlipRead::Unformed => answers::refused(17),
+        SlipRead::Unformed => check_answer::refused(17),
     }
 }
 
@@ -94,7 +94,7 @@ fn ended(answer: Answer, work: &mut [u32]) -> Answer
     requires { ⌜ 16384 ≤ length (now work) ⌝ }
     ensures { λ r. ⌜ (r ≡ answer) × (now (work .exit) ≡ zeroed (now (work .entry))) ⌝ }
 {
-    lent::zero(work);
+    work::zero(work);
     answer
 }
 
@@ -103,13 +103,13 @@ pub fn check(sheet: &[u8], work: &mut [u32], slip: &[u8]) -> Answer
     ensures { λ r. ⌜ record { number = r .number; yes = r .yes; work = now (work .exit) } ≡ checked (now (sheet .entry)) (now (work .entry)) (now (slip .entry)) ⌝ }
 {
     if work.len() < WORK_NUMBERS {
-        return answers::refused(1);
+        return check_answer::refused(1);
     }
     let mut arcs = [0u32; 1536];
     let mut marks = [0u8; 576];
-    let header = match reader::read(sheet, &mut arcs, &mut marks) {
+    let header = match sheet_reader::read(sheet, &mut arcs, &mut marks) {
         SheetRead::Taken(header) => header,
-        SheetRead::Refused(why) => return answers::refused(why),
+        SheetRead::Refused(why) => return check_answer::refused(why),
     };
     let numbers = 3 * header.arcs;
     let items = header.nodes + header.arcs;

@@ -150,7 +150,7 @@ fn show_reason_checked(name: &[u8], sheet: &[u8], item: u32, slip: &[u8]) {
 fn show_view(name: &[u8], sheet: &[u8], arc: u32) {
     io::write_all(STDOUT_FILENO, name);
     io::write_all(STDOUT_FILENO, b":");
-    let part = view::arc_view(sheet, arc);
+    let part = sheet_view::arc_view(sheet, arc);
     if part.len() == 0 {
         io::write_all(STDOUT_FILENO, b" empty");
     }

@@ -12,11 +12,11 @@ use Rattle.walks.specs.Goals.{exitOf}
 use Rattle.walks.specs.Graph.{Graph, itemCount, closedIn, least, fits}
 use Rattle.rows.specs.Held.{held}
 use Rattle.rows.specs.Net.{netOf, arcCount}
-use Rattle.table.specs.Table.{Rowed}
+use Rattle.goal_table.specs.Table.{Rowed}
 use Rattle.walks.proofs.FlatLaws.{arcs-count}
-use Rattle.explain.specs.Reasons.{reasons}
-use Rattle.explain.proofs.ReasonLaws.{reasons-alike}
-use Rattle.turns.specs.Turns.{Setting, fitsAt, State, Turned, PutDown, Begun, Listed}
+use Rattle.reason_list.specs.Reasons.{reasons}
+use Rattle.reason_list.proofs.ReasonLaws.{reasons-alike}
+use Rattle.greedy_turn.specs.Turns.{Setting, fitsAt, State, Turned, PutDown, Begun, Listed}
 use Rattle.greedy.proofs.ListingLaws.{Listing, begun, passed-on, left-open, put-down, ended}
 
 pub listed-more : (n : ℕ) (xs : List ℕ) (to cap : ℕ) (goals starts marks₀ list₀ : List ℕ) {i : ℕ} {marks list : List ℕ} {m : ℕ} {marks′ list′ : List ℕ}

@@ -8,7 +8,7 @@ use lib.ListN.{length, drop, set, length-append}
 use lib.Seq.{drop-cons, set-append-seam}
 use Rattle.lists.specs.Lists.{front}
 use Rattle.walks.specs.Graph.{Graph, itemCount, closedIn, fits}
-use Rattle.explain.specs.Reasons.{greedy, reasons}
+use Rattle.reason_list.specs.Reasons.{greedy, reasons}
 
 -- one more entry in front
 pub front-more : (xs d : List ℕ) (x : ℕ) → length xs < length d → set (front xs d) (length xs) x ≡ front (xs ++ x ∷ []) d

@@ -6,14 +6,14 @@ ghost use lib.ListN.{length, getD, take, drop};
 ghost use Rattle.lists.specs.Lists.{front};
 ghost use Rattle.walks.specs.Flat.{graphOf};
 ghost use Rattle.walks.specs.Graph.{closedIn, fits};
-ghost use Rattle.explain.specs.Reasons.{reasons};
+ghost use Rattle.reason_list.specs.Reasons.{reasons};
 ghost use Rattle.rows.specs.Held.{missing};
 ghost use Rattle.rows.specs.Net.{netOf, arcCount, Proper};
-ghost use Rattle.table.specs.Table.{GoalsFit, Rowed};
-ghost use Rattle.turns.specs.Turns.{PutDown, Begun, Listed};
+ghost use Rattle.goal_table.specs.Table.{GoalsFit, Rowed};
+ghost use Rattle.greedy_turn.specs.Turns.{PutDown, Begun, Listed};
+use greedy_turn::Turn;
 use lengths::Query;
-use links::LINK_NUMBERS;
-use turns::Turn;
+use row_links::LINK_NUMBERS;
 
 // The most items that a graph has, nodes and arcs together.
 const MOST_ITEMS: usize = 576;
@@ -69,7 +69,7 @@ fn begin(
     let cap = q.cap;
     lengths::set_starts(nodes, arcs, q.from, goals, starts);
     lengths::note_goals(nodes, arcs, marks, goals, work, cap);
-    links::pack_all(nodes, arcs, marks, packed)
+    row_links::pack_all(nodes, arcs, marks, packed)
 }
 
 // Takes the items' turns in ascending order and writes the listed ones to the front of `list`. The marks are left with the opened items open.
@@ -104,7 +104,7 @@ fn fill_list(
             cap,
             count,
         };
-        let r = turns::take_turn(t, arcs, marks, &mut packed, &starts[..rows], goals, work);
+        let r = greedy_turn::take_turn(t, arcs, marks, &mut packed, &starts[..rows], goals, work);
         count = r.count;
         n = put_down(list, n, i, r.listed);
         i += 1;

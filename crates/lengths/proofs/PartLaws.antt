@@ -15,10 +15,10 @@ use Rattle.rows.specs.Net.{Net, graph, closed, Proper, Packed}
 use Rattle.rows.specs.Rows.{RowsAre, StartsOf, StartsFit}
 use Rattle.walks.specs.Graph.{Graph, least}
 use Rattle.walks.specs.Goals.{entryOf, exitOf, ownOf}
-use Rattle.table.proofs.SetLaws.{length-none, chosen-all}
-use Rattle.table.proofs.TableLaws.{same-front, asked-of}
-use Rattle.table.specs.Sets.{chosen}
-use Rattle.table.specs.Table.{GoalsFit, StartsTo, StartsAre, Rowed, NotedTo, Noted, Filled, Asked, TableFits}
+use Rattle.goal_table.proofs.SetLaws.{length-none, chosen-all}
+use Rattle.goal_table.proofs.TableLaws.{same-front, asked-of}
+use Rattle.goal_table.specs.Sets.{chosen}
+use Rattle.goal_table.specs.Table.{GoalsFit, StartsTo, StartsAre, Rowed, NotedTo, Noted, Filled, Asked, TableFits}
 
 -- the rows of the starts are those from a and from where each goal is left
 pub rowed-of : {N : Net} {cap a : ℕ} {goals starts work : List ℕ} (n : ℕ) → n ≡ length goals + 1 → StartsAre (graph N) a goals starts → RowsAre N cap starts n work

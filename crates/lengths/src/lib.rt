@@ -7,9 +7,9 @@ ghost use Rattle.walks.specs.Graph.{closedIn, least as leastOf};
 ghost use Rattle.walks.specs.Flat.{graphOf};
 ghost use Rattle.rows.specs.Held.{missing, code, atMost, held};
 ghost use Rattle.rows.specs.Net.{Net, netOf, graph, closed, arcCount, Proper, Joins};
-ghost use Rattle.table.specs.Table.{GoalsFit, StartsAre, Rowed, Noted, Filled, TableFits, SetFits, TableOnly};
-use table::ENTRIES;
-use table::OWN_LENGTHS;
+ghost use Rattle.goal_table.specs.Table.{GoalsFit, StartsAre, Rowed, Noted, Filled, TableFits, SetFits, TableOnly};
+use goal_table::ENTRIES;
+use goal_table::OWN_LENGTHS;
 
 // The most numbers that the arcs take, three each.
 const ARC_NUMBERS: usize = 1536;
@@ -69,7 +69,7 @@ fn fill_set(work: &mut [u32], set: u32, cap: u32)
     let mut rest = set;
     while rest != 0 {
         let i = u32::trailing_zeros(rest) as usize;
-        table::put(work, set, i, cap);
+        goal_table::put(work, set, i, cap);
         rest = rest & (rest - 1);
     }
 }
@@ -80,7 +80,7 @@ pub fn fill_table(work: &mut [u32], count: usize, cap: u32)
     ensures { λ _. ⌜ ((N : Net) (a : ℕ) (goals : List ℕ) → length goals ≡ count → Filled N cap a goals 0 (now (work .entry)) → Filled N cap a goals (2 ^ count) (now (work .exit))) ⌝ }
     ensures { λ _. ⌜ TableOnly (now (work .entry)) (now (work .exit)) ⌝ }
 {
-    let end = table::bit(count);
+    let end = goal_table::bit(count);
     let mut set: u32 = 0;
     while set < end {
         fill_set(work, set, cap);
@@ -96,7 +96,7 @@ pub fn reach_goals(work: &[u32], count: usize, to: usize, cap: u32) -> u32
     if count == 0 {
         return work[to];
     }
-    table::reach(work, table::bit(count) - 1, to, cap)
+    goal_table::reach(work, goal_table::bit(count) - 1, to, cap)
 }
 
 // Fills the rows: from the source, and from where each goal is left.
@@ -107,11 +107,11 @@ pub fn start_rows(q: Query, arcs: &[u32], marks: &[u8], goals: &[usize], work: &
     ensures { λ _. ⌜ drop 576 (now (work .exit)) ≡ drop 576 (now (work .entry)) ⌝ }
 {
     let mut packed = [0u32; ARC_NUMBERS];
-    let n = arcs::pack(q.nodes, arcs, marks, &mut packed);
+    let n = row_arcs::pack(q.nodes, arcs, marks, &mut packed);
     let mut starts = [0usize; ROWS];
     set_starts(q.nodes, arcs, q.from, goals, &mut starts);
     let count = goals.len() + 1;
-    filling::fill_rows(&packed[..n], marks, &starts[..count], work, q.cap);
+    row_fill::fill_rows(&packed[..n], marks, &starts[..count], work, q.cap);
 }
 
 // The least length of a walk from `from` to `to`, clear of the forbidden items, that meets all goals; MISSING where there is none of at most

@@ -6,23 +6,23 @@ use mathlib.Core.List.{List, _∷_}
 use native.Mathlib.Omega.{arith}
 use lib.ListN.{length, take}
 use Rattle.sheet.specs.declared.Header.{Header}
-use Rattle.judge.specs.declared.Verdict.{Verdict}
+use Rattle.pass_verdict.specs.declared.Verdict.{Verdict}
 use Rattle.varint.specs.Answer.{small}
-use Rattle.required.proofs.HeldLaws.{items-are, goals-at, listed-front}
-use Rattle.judge.specs.Judged.{Judged}
-use Rattle.required.specs.Held.{Whole, sheetOf}
-use Rattle.table.specs.Table.{GoalsFit}
+use Rattle.sheet_required.proofs.HeldLaws.{items-are, goals-at, listed-front}
+use Rattle.pass_verdict.specs.Judged.{Judged}
+use Rattle.sheet_required.specs.Held.{Whole, sheetOf}
+use Rattle.goal_table.specs.Table.{GoalsFit}
 use Rattle.lists.proofs.AscendLaws.{ascends-distinct}
 use Rattle.lists.specs.Lists.{front}
 use Rattle.rows.specs.Net.{netOf}
 use Rattle.sheet.proofs.SlipLaws.{Small, slip-size, numbers-below}
 use Rattle.sheet.specs.Sheet.{Sheet}
 use Rattle.sheet.specs.Slip.{Slip, slipNumbers, slipBytes, marksBytes}
-use Rattle.form.proofs.FormLaws.{small-below}
-use Rattle.form.specs.Form.{slipFrom}
-use Rattle.verdict.proofs.SlipOfPass.{marks-are, slip-small, verdict-goals, reasons-count}
-use Rattle.verdict.proofs.VerdictLaws.{refused-goals, verdict-low}
-use Rattle.verdict.specs.Verdict.{fitsSheet, verdict, newMarks, reasonsFor, slipFor, passSlip}
+use Rattle.slip_reader.proofs.FormLaws.{small-below}
+use Rattle.slip_reader.specs.Form.{slipFrom}
+use Rattle.pass_rules.proofs.SlipOfPass.{marks-are, slip-small, verdict-goals, reasons-count}
+use Rattle.pass_rules.proofs.VerdictLaws.{refused-goals, verdict-low}
+use Rattle.pass_rules.specs.Verdict.{fitsSheet, verdict, newMarks, reasonsFor, slipFor, passSlip}
 use Rattle.walks.specs.Graph.{itemCount}
 
 -- a small slip can be written into 1,200 bytes

@@ -14,12 +14,12 @@ use Rattle.sheet.specs.Lent.{workNumbers}
 use Rattle.sheet.specs.Sheet.{Sheet, isOpen}
 use Rattle.sheet.specs.Slip.{Slip, readSlip}
 use Rattle.varint.specs.Varint.{Read, got, refuse, after}
-use Rattle.verdict.proofs.AcceptedLaws.{accepted-taken, accepted-got}
-use Rattle.verdict.proofs.Demand2.{Refusal, finished-is, verdict-in, prune-exact, refuse-exact, is-refused}
-use Rattle.verdict.proofs.VerdictLaws.{NoWalkOn}
-use Rattle.verdict.specs.Accepted.{accepted}
-use Rattle.verdict.specs.Pass.{finished, answerOf, outcome, lentEnough, passOn, passed, written, verdictIn, markIn, Refuses}
-use Rattle.verdict.specs.Verdict.{verdict, slipFor, passSlip}
+use Rattle.pass_rules.proofs.AcceptedLaws.{accepted-taken, accepted-got}
+use Rattle.pass_rules.proofs.Demand2.{Refusal, finished-is, verdict-in, prune-exact, refuse-exact, is-refused}
+use Rattle.pass_rules.proofs.VerdictLaws.{NoWalkOn}
+use Rattle.pass_rules.specs.Accepted.{accepted}
+use Rattle.pass_rules.specs.Pass.{finished, answerOf, outcome, lentEnough, passOn, passed, written, verdictIn, markIn, Refuses}
+use Rattle.pass_rules.specs.Verdict.{verdict, slipFor, passSlip}
 use Rattle.walks.specs.Graph.{itemCount}
 
 -- a call that answers 0: the sheet is accepted, and the stated slip stands in front

@@ -6,7 +6,7 @@ use lib.ListN.{length, drop}
 use borrow.Author.Tests.{lt-ltb, le-ltb, le-leb, lt-leb}
 use Rattle.lists.specs.Lists.{front}
 use Rattle.sheet.specs.Lent.{zeroed, workAfter}
-use Rattle.verdict.specs.Pass.{Answer, finished, refused, outcome, lentEnough}
+use Rattle.pass_rules.specs.Pass.{Answer, finished, refused, outcome, lentEnough}
 
 module _ (a : Answer) (work slip : List ℕ) where
   -- 1: too little work

@@ -5,9 +5,9 @@ use mathlib.Core.List.{List, []}
 use Rattle.sheet.specs.Reader.{taken}
 use Rattle.sheet.specs.Sheet.{Sheet}
 use Rattle.varint.specs.Varint.{got, refuse, after}
-use Rattle.verdict.proofs.AcceptedLaws.{accepted-taken}
-use Rattle.verdict.specs.Pass.{finished, refused, answerOf, passOn}
-use Rattle.verdict.specs.Verdict.{verdict, passSlip}
+use Rattle.pass_rules.proofs.AcceptedLaws.{accepted-taken}
+use Rattle.pass_rules.specs.Pass.{finished, refused, answerOf, passOn}
+use Rattle.pass_rules.specs.Verdict.{verdict, passSlip}
 
 pub bad-sheet : (sheet : List ℕ) (w : ℕ) → taken sheet ≡ refuse w → passOn sheet ≡ refused w
 unfolding passOn answerOf after

@@ -5,13 +5,13 @@ ghost use Prim.Native.Nat.{_+_, _*_, _≤_};
 ghost use lib.ListN.{length, drop};
 ghost use Rattle.lists.specs.Lists.{front};
 ghost use Rattle.rows.specs.Net.{netOf};
-ghost use Rattle.table.specs.Table.{GoalsFit, Rowed};
-ghost use Rattle.verdict.specs.Verdict.{fitsSheet, reasonsFor, passSlip, verdict as verdictOf};
-ghost use Rattle.verdict.specs.Pass.{passed};
-ghost use Rattle.required.specs.Held.{sheetOf, Whole};
+ghost use Rattle.goal_table.specs.Table.{GoalsFit, Rowed};
+ghost use Rattle.pass_rules.specs.Verdict.{fitsSheet, reasonsFor, passSlip, verdict as verdictOf};
+ghost use Rattle.pass_rules.specs.Pass.{passed};
+ghost use Rattle.sheet_required.specs.Held.{sheetOf, Whole};
 use lengths::Query;
-use reader::SheetRead;
 use sheet::Header;
+use sheet_reader::SheetRead;
 
 // What an operation asks for: so many work numbers, and a slip of so many bytes.
 pub const WORK_NUMBERS: usize = 16384;
@@ -100,17 +100,17 @@ fn write_answer(
     ensures { λ _. ⌜ drop 16384 (now (work .exit)) ≡ drop 16384 (now (work .entry)) ⌝ }
 {
     let mut rows = [0u32; TWO_ROWS];
-    fits::fill_rows(header, arcs, marks, &mut rows);
+    item_fits::fill_rows(header, arcs, marks, &mut rows);
     let mut goals = [0usize; ROW_LENGTH];
-    let verdict = judge::judge(header, arcs, marks, &rows, &mut goals, work);
+    let verdict = pass_verdict::judge(header, arcs, marks, &rows, &mut goals, work);
     if verdict.number == 0 {
-        return marking::write_stands(header, arcs, marks, &rows, slip);
+        return pass_marks::write_stands(header, arcs, marks, &rows, slip);
     }
     let count = verdict.count;
     let mut list = [0u32; ITEMS];
     ready_rows(header, arcs, marks, verdict.number, &goals[..count], work);
     let n = list_reasons(header, arcs, marks, &goals[..count], work, &mut list);
-    slip::write_slip(slip, verdict.number, &goals[..count], &list[..n])
+    slip_writer::write_slip(slip, verdict.number, &goals[..count], &list[..n])
 }
 
 // The pass: for every sheet, work and slip what document 01 says, refused ones too.
@@ -131,7 +131,7 @@ pub fn pass(sheet: &[u8], work: &mut [u32], slip: &mut [u8]) -> Answer
     }
     let mut arcs = [0u32; ARC_NUMBERS];
     let mut marks = [0u8; ITEMS];
-    let header = match reader::read(sheet, &mut arcs, &mut marks) {
+    let header = match sheet_reader::read(sheet, &mut arcs, &mut marks) {
         SheetRead::Taken(header) => header,
         SheetRead::Refused(why) => return Answer {
             number: why,
@@ -141,6 +141,6 @@ pub fn pass(sheet: &[u8], work: &mut [u32], slip: &mut [u8]) -> Answer
     let numbers = 3 * header.arcs;
     let items = header.nodes + header.arcs;
     let length = write_answer(header, &arcs[..numbers], &marks[..items], work, slip);
-    lent::zero(work);
+    work::zero(work);
     Answer { number: 0, length }
 }

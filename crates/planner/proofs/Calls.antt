@@ -6,16 +6,16 @@ use mathlib.Core.Bool.{true}
 use mathlib.Core.List.{List, [], _∷_}
 use lib.ListN.{length}
 use borrow.Author.Tests.{le-ltb}
-use Rattle.blame.specs.Reason.{reasoned}
+use Rattle.reason_rules.specs.Reason.{reasoned}
 use Rattle.pass.proofs.Calls as pass
 use Rattle.reason.proofs.Calls as reason
 use Rattle.sheet.specs.Lent.{workNumbers, zeroed}
 use Rattle.varint.specs.Varint.{got}
-use Rattle.verdict.proofs.Demand2.{finished-is}
-use Rattle.verdict.specs.Pass.{passed, written, verdictIn}
-use Rattle.verdict.specs.Verdict.{verdict, slipFor}
-use Rattle.verify.proofs.CheckLaws.{check-pass, check-reason}
-use Rattle.verify.specs.Check.{outcome, checkOn, checked}
+use Rattle.pass_rules.proofs.Demand2.{finished-is}
+use Rattle.pass_rules.specs.Pass.{passed, written, verdictIn}
+use Rattle.pass_rules.specs.Verdict.{verdict, slipFor}
+use Rattle.check_rules.proofs.CheckLaws.{check-pass, check-reason}
+use Rattle.check_rules.specs.Check.{outcome, checkOn, checked}
 
 module _ (sheet work slip lent : List ℕ) (h : workNumbers ≤ length lent) where
   says-yes : (bytes : List ℕ) → checkOn sheet bytes ≡ got true [] → checked sheet lent bytes ≡ record { number = 0; yes = true; work = zeroed lent }

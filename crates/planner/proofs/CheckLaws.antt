@@ -7,11 +7,11 @@ use native.Mathlib.Omega.{arith}
 use lib.ListN.{length}
 use borrow.Author.Tests.{lt-ltb, le-ltb}
 use Rattle.varint.specs.Varint.{Read, got, refuse}
-use Rattle.verify.specs.Check as check
-use Rattle.verify.specs.Check.{checkOn, checked}
-use Rattle.lent.specs.Bytes.{zeroedBytes, bytesAfter, leftBytes}
+use Rattle.check_rules.specs.Check as check
+use Rattle.check_rules.specs.Check.{checkOn, checked}
+use Rattle.work.specs.Bytes.{zeroedBytes, bytesAfter, leftBytes}
 use Rattle.planner.specs.Check.{Outcome, outcome, yesNumber, checkedBytes}
-use Rattle.lent.proofs.BytesLaws.{left-finished, left-refused}
+use Rattle.work.proofs.BytesLaws.{left-finished, left-refused}
 
 -- yes or no, or one of the refusals 1 to 18
 abbrev pub Drawn : Read Bool → Type 0

@@ -10,18 +10,18 @@ use lib.Seq.{length-take-le}
 use lib.Dec.{leb}
 use Rattle.lists.proofs.Pigeonhole.{Below}
 use Rattle.lists.specs.Lists.{pick, front}
-use Rattle.blame.specs.Reason.{reasonOn, reasoned}
+use Rattle.reason_rules.specs.Reason.{reasonOn, reasoned}
 use Rattle.sheet.specs.Lent.{zeros, zeroed, workAfter}
 use Rattle.varint.specs.Varint.{Read, got, refuse}
-use Rattle.verdict.specs.Pass as pass
-use Rattle.verdict.specs.Pass.{Answer, finished, refused, passOn, passed}
-use Rattle.verify.specs.Check as check
-use Rattle.verify.specs.Check.{checkOn, checked}
+use Rattle.pass_rules.specs.Pass as pass
+use Rattle.pass_rules.specs.Pass.{Answer, finished, refused, passOn, passed}
+use Rattle.check_rules.specs.Check as check
+use Rattle.check_rules.specs.Check.{checkOn, checked}
 use Rattle.planner.specs.Copied.{numbersOf, bytesOf, copiedOut, checkCopiedOut}
-use Rattle.lent.specs.Bytes.{zeroedBytes, bytesAfter, leftBytes}
+use Rattle.work.specs.Bytes.{zeroedBytes, bytesAfter, leftBytes}
 use Rattle.planner.specs.Layer.{outcome, lentEnough, passedBytes, reasonedBytes}
 use Rattle.planner.specs.Check.{checkedBytes}
-use Rattle.lent.proofs.BytesLaws.{left-finished, left-refused}
+use Rattle.work.proofs.BytesLaws.{left-finished, left-refused}
 use Rattle.planner.proofs.LayerLaws.{Within, in-bytes, enough, enough-within}
 use Rattle.planner.proofs.CheckLaws.{Drawn, check-in-bytes, over-numbers}
 use Rattle.planner.proofs.WithinLaws.{pass-within, reason-within, check-drawn}

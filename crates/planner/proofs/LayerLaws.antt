@@ -9,11 +9,11 @@ use lib.ListN.{length}
 use lib.Dec.{ltb}
 use borrow.Author.Tests.{lt-ltb, le-ltb}
 use Rattle.lists.specs.Lists.{pick, front}
-use Rattle.verdict.specs.Pass as pass
-use Rattle.verdict.specs.Pass.{Answer, finished, refused}
-use Rattle.lent.specs.Bytes.{zeroedBytes, bytesAfter, leftBytes}
+use Rattle.pass_rules.specs.Pass as pass
+use Rattle.pass_rules.specs.Pass.{Answer, finished, refused}
+use Rattle.work.specs.Bytes.{zeroedBytes, bytesAfter, leftBytes}
 use Rattle.planner.specs.Layer.{Outcome, outcome, lentEnough}
-use Rattle.lent.proofs.BytesLaws.{left-finished, left-refused}
+use Rattle.work.proofs.BytesLaws.{left-finished, left-refused}
 
 -- a slip of at most 1,200 bytes, or one of the refusals 1 to 16
 abbrev pub Within : Answer → Type 0

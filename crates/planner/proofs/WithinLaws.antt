@@ -6,18 +6,18 @@ use mathlib.Core.List.{List, [], _∷_}
 use native.Mathlib.Omega.{arith}
 use lib.Dec.{leb, ltb}
 use Rattle.lists.specs.Lists.{pick}
-use Rattle.blame.proofs.AnswerLaws.{reason-slip-size}
-use Rattle.blame.specs.Reason.{prunes, reasonIn, reasonOn}
+use Rattle.reason_rules.proofs.AnswerLaws.{reason-slip-size}
+use Rattle.reason_rules.specs.Reason.{prunes, reasonIn, reasonOn}
 use Rattle.sheet.proofs.RefusalLaws.{taken-refuses}
 use Rattle.sheet.specs.Sheet.{Sheet}
 use Rattle.sheet.specs.Slip.{Slip, slipBytes, readSlip, slipGoals, as17}
 use Rattle.varint.specs.Varint.{Read, got, refuse, after, number}
-use Rattle.verdict.proofs.AcceptedLaws.{accepted-taken, accepted-got, accepted-good}
-use Rattle.verdict.proofs.SlipOfPass.{pass-slip-size}
-use Rattle.verdict.specs.Accepted.{accepted}
-use Rattle.verdict.specs.Pass.{finished, answerOf, passOn}
-use Rattle.verdict.specs.Verdict.{verdict, passSlip, slipFor}
-use Rattle.verify.specs.Check.{wellFormed, holds, judgedOn, checkOn}
+use Rattle.pass_rules.proofs.AcceptedLaws.{accepted-taken, accepted-got, accepted-good}
+use Rattle.pass_rules.proofs.SlipOfPass.{pass-slip-size}
+use Rattle.pass_rules.specs.Accepted.{accepted}
+use Rattle.pass_rules.specs.Pass.{finished, answerOf, passOn}
+use Rattle.pass_rules.specs.Verdict.{verdict, passSlip, slipFor}
+use Rattle.check_rules.specs.Check.{wellFormed, holds, judgedOn, checkOn}
 use Rattle.walks.specs.Graph.{itemCount}
 use Rattle.planner.proofs.LayerLaws.{Within}
 use Rattle.planner.proofs.CheckLaws.{Drawn}

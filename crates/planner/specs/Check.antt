@@ -6,8 +6,8 @@ use lib.ListN.{length}
 use lib.Dec.{ltb}
 use Rattle.lists.specs.Lists.{pick}
 use Rattle.varint.specs.Varint.{Read, got, refuse}
-use Rattle.verify.specs.Check.{checkOn}
-use Rattle.lent.specs.Bytes.{workBytes, zeroedBytes, bytesAfter}
+use Rattle.check_rules.specs.Check.{checkOn}
+use Rattle.work.specs.Bytes.{workBytes, zeroedBytes, bytesAfter}
 
 -- What a call gives and leaves: its one number, 65,536 times the refusal plus 1 for yes, and what the work holds. The slip is only read.
 pub record Outcome : Type 0 where

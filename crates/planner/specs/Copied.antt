@@ -3,8 +3,8 @@ use Prim.Native.Nat.{ℕ, zero, suc, _+_, _*_, _/_, _%_}
 use mathlib.Core.List.{List, [], _∷_}
 use lib.ListN.{getD, drop}
 use Rattle.lists.specs.Lists.{front}
-use Rattle.verdict.specs.Pass as pass
-use Rattle.verify.specs.Check as check
+use Rattle.pass_rules.specs.Pass as pass
+use Rattle.check_rules.specs.Check as check
 use Rattle.planner.specs.Layer as layer
 use Rattle.planner.specs.Check as layerCheck
 use Rattle.planner.specs.Check.{yesNumber}

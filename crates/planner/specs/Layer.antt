@@ -4,9 +4,9 @@ use mathlib.Core.List.{List}
 use lib.ListN.{length}
 use lib.Dec.{ltb}
 use Rattle.lists.specs.Lists.{pick, front}
-use Rattle.verdict.specs.Pass.{Answer, finished, refused, passOn}
-use Rattle.blame.specs.Reason.{reasonOn}
-use Rattle.lent.specs.Bytes.{workBytes, zeroedBytes, bytesAfter}
+use Rattle.pass_rules.specs.Pass.{Answer, finished, refused, passOn}
+use Rattle.reason_rules.specs.Reason.{reasonOn}
+use Rattle.work.specs.Bytes.{workBytes, zeroedBytes, bytesAfter}
 
 -- What a call gives and leaves: its one number, 65,536 times the refusal plus the slip's length, and what work and slip hold.
 pub record Outcome : Type 0 where

@@ -7,7 +7,7 @@ ghost use mathlib.Core.Path.{_≡_};
 ghost use Prim.Native.Nat.{_+_, _*_, _≤_};
 ghost use Rattle.planner.specs.Layer.{passedBytes, reasonedBytes};
 ghost use Rattle.planner.specs.Check.{yesNumber, checkedBytes};
-use lent::WORK_BYTES;
+use work::WORK_BYTES;
 
 // What a refusal number counts in the one number of a call.
 const REFUSAL: u32 = 65536;
@@ -37,7 +37,7 @@ pub extern "C" fn ways_pass(sheet: &[u8], work: &mut [u8], slip: &mut [u8]) -> u
     }
     let mut numbers = [0u32; pass::WORK_NUMBERS];
     let answer = pass::pass(sheet, &mut numbers, slip);
-    lent::leave(work, answer.number);
+    work::leave(work, answer.number);
     one_number(answer.number, answer.length)
 }
 
@@ -51,7 +51,7 @@ pub extern "C" fn ways_reason(sheet: &[u8], work: &mut [u8], slip: &mut [u8], it
     }
     let mut numbers = [0u32; pass::WORK_NUMBERS];
     let answer = reason::reason(sheet, &mut numbers, slip, item);
-    lent::leave(work, answer.number);
+    work::leave(work, answer.number);
     one_number(answer.number, answer.length)
 }
 
@@ -65,6 +65,6 @@ pub extern "C" fn ways_check(sheet: &[u8], work: &mut [u8], slip: &[u8]) -> u32
     }
     let mut numbers = [0u32; pass::WORK_NUMBERS];
     let answer = checker::check(sheet, &mut numbers, slip);
-    lent::leave(work, answer.number);
+    work::leave(work, answer.number);
     one_number(answer.number, yes_number(answer.yes))
 }

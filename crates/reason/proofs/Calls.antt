@@ -13,15 +13,15 @@ use Rattle.sheet.specs.Lent.{workNumbers}
 use Rattle.sheet.specs.Sheet.{Sheet}
 use Rattle.sheet.specs.Slip.{readSlip}
 use Rattle.varint.specs.Varint.{Read, got, refuse, after}
-use Rattle.verdict.proofs.AcceptedLaws.{accepted-taken, accepted-got}
-use Rattle.verdict.proofs.Demand2.{finished-is}
-use Rattle.verdict.specs.Accepted.{accepted}
-use Rattle.verdict.specs.Pass.{finished, answerOf, outcome, lentEnough, written}
-use Rattle.verdict.specs.Verdict.{slipFor}
+use Rattle.pass_rules.proofs.AcceptedLaws.{accepted-taken, accepted-got}
+use Rattle.pass_rules.proofs.Demand2.{finished-is}
+use Rattle.pass_rules.specs.Accepted.{accepted}
+use Rattle.pass_rules.specs.Pass.{finished, answerOf, outcome, lentEnough, written}
+use Rattle.pass_rules.specs.Verdict.{slipFor}
 use Rattle.reason.proofs.SaidLaws.{item-late}
-use Rattle.blame.proofs.AnswerLaws.{reason-finished, reason-finishes}
-use Rattle.blame.specs.Later.{Explains}
-use Rattle.blame.specs.Reason.{reasonIn, reasonOn, reasoned}
+use Rattle.reason_rules.proofs.AnswerLaws.{reason-finished, reason-finishes}
+use Rattle.reason_rules.specs.Later.{Explains}
+use Rattle.reason_rules.specs.Reason.{reasonIn, reasonOn, reasoned}
 
 -- a call that answers 0: the sheet is accepted, and the stated slip stands in front
 pub record Finished (sheet work slip : List ℕ) (i : ℕ) : Type 0 where

@@ -9,9 +9,9 @@ use lib.Dec.{eqb}
 use borrow.Author.Tests.{eq-eqb, ne-eqb, lt-ltb, le-ltb}
 use Rattle.sheet.specs.declared.Header.{Header}
 use Rattle.varint.specs.Answer.{small}
-use Rattle.required.proofs.HeldLaws.{items-are, listed-front}
-use Rattle.required.specs.Held.{Whole, sheetOf}
-use Rattle.table.specs.Table.{GoalsFit}
+use Rattle.sheet_required.proofs.HeldLaws.{items-are, listed-front}
+use Rattle.sheet_required.specs.Held.{Whole, sheetOf}
+use Rattle.goal_table.specs.Table.{GoalsFit}
 use Rattle.lists.proofs.TestLaws.{and-true, not-true}
 use Rattle.lists.specs.Lists.{member, front}
 use Rattle.pass.proofs.AnswerLaws.{slip-writes}
@@ -19,11 +19,11 @@ use Rattle.rows.specs.Net.{netOf}
 use Rattle.sheet.proofs.MarkLaws.{is-open}
 use Rattle.sheet.specs.Sheet.{Sheet, markOf, isOpen}
 use Rattle.sheet.specs.Slip.{slipBytes, slipNumbers}
-use Rattle.form.specs.Form.{slipFrom}
-use Rattle.verdict.proofs.SlipOfPass.{slip-small}
-use Rattle.verdict.specs.Verdict.{fitsSheet, verdict, isPruned, reasonsFor, slipFor}
+use Rattle.slip_reader.specs.Form.{slipFrom}
+use Rattle.pass_rules.proofs.SlipOfPass.{slip-small}
+use Rattle.pass_rules.specs.Verdict.{fitsSheet, verdict, isPruned, reasonsFor, slipFor}
 use Rattle.walks.specs.Graph.{itemCount}
-use Rattle.blame.specs.Reason.{prunes, reasonIn}
+use Rattle.reason_rules.specs.Reason.{prunes, reasonIn}
 use Rattle.reason.specs.Said.{Says, refuses, writes}
 
 module _ (S : Sheet) (i : ℕ) where

@@ -14,11 +14,11 @@ use Rattle.sheet.specs.Reader.{taken}
 use Rattle.sheet.specs.Sheet.{Sheet}
 use Rattle.sheet.specs.Slip.{slipBytes}
 use Rattle.varint.specs.Varint.{got, refuse, after}
-use Rattle.verdict.proofs.AcceptedLaws.{accepted-taken}
-use Rattle.verdict.specs.Pass.{refused, answerOf, outcome, lentEnough}
-use Rattle.verdict.specs.Verdict.{slipFor}
+use Rattle.pass_rules.proofs.AcceptedLaws.{accepted-taken}
+use Rattle.pass_rules.specs.Pass.{refused, answerOf, outcome, lentEnough}
+use Rattle.pass_rules.specs.Verdict.{slipFor}
 use Rattle.walks.specs.Graph.{itemCount}
-use Rattle.blame.specs.Reason.{prunes, reasonIn, reasonOn}
+use Rattle.reason_rules.specs.Reason.{prunes, reasonIn, reasonOn}
 use Rattle.reason.specs.Said.{Says, refuses, writes}
 
 pub bad-sheet : (sheet : List ℕ) (i w : ℕ) → taken sheet ≡ refuse w → reasonOn sheet i ≡ refused w

@@ -7,7 +7,7 @@ use Rattle.lists.specs.Lists.{front}
 use Rattle.varint.specs.Varint.{got, refuse}
 use Rattle.sheet.specs.Sheet.{Sheet}
 use Rattle.pass.specs.declared.Answer.{Answer}
-use Rattle.blame.specs.Reason.{reasonIn}
+use Rattle.reason_rules.specs.Reason.{reasonIn}
 
 -- The number and length are those of document 01: a refusal with the slip as found, or 0 with the item's slip in front.
 pub data Says (S : Sheet) (i : ℕ) (slip : List ℕ) : Answer → List ℕ → Type 0 where

@@ -2,12 +2,12 @@
 ghost use mathlib.Core.Path.{_≡_};
 ghost use Prim.Native.Nat.{_+_, _≤_, _<_};
 ghost use lib.ListN.{length, drop};
-ghost use Rattle.required.specs.Held.{sheetOf, Whole};
-ghost use Rattle.blame.specs.Reason.{prunes, reasoned};
+ghost use Rattle.sheet_required.specs.Held.{sheetOf, Whole};
+ghost use Rattle.reason_rules.specs.Reason.{prunes, reasoned};
 ghost use Rattle.reason.specs.Said.{Says};
 use pass::Answer;
-use reader::SheetRead;
 use sheet::Header;
+use sheet_reader::SheetRead;
 
 const TWO_ROWS: usize = 128;
 
@@ -25,16 +25,16 @@ fn is_pruned(header: Header, arcs: &[u32], marks: &[u8], work: &mut [u32], item:
     ensures { λ _. ⌜ drop 16384 (now (work .exit)) ≡ drop 16384 (now (work .entry)) ⌝ }
 {
     let mut rows = [0u32; TWO_ROWS];
-    fits::fill_rows(header, arcs, marks, &mut rows);
+    item_fits::fill_rows(header, arcs, marks, &mut rows);
     let mut goals = [0usize; ROW_LENGTH];
-    let verdict = judge::judge(header, arcs, marks, &rows, &mut goals, work);
+    let verdict = pass_verdict::judge(header, arcs, marks, &rows, &mut goals, work);
     if verdict.number != 0 {
         return false;
     }
     if marks[item] != OPEN {
         return false;
     }
-    !fits::fits_item(header, arcs, marks, &rows, item)
+    !item_fits::fits_item(header, arcs, marks, &rows, item)
 }
 
 // The answer for an item of a taken sheet: 15, 16, or its slip over the front of `slip`.
@@ -68,7 +68,7 @@ fn explain_item(
     let n = pass::list_reasons(header, arcs, marks, &goals, work, &mut list);
     Answer {
         number: 0,
-        length: slip::write_slip(slip, STRUCK, &goals, &list[..n]),
+        length: slip_writer::write_slip(slip, STRUCK, &goals, &list[..n]),
     }
 }
 
@@ -90,7 +90,7 @@ pub fn reason(sheet: &[u8], work: &mut [u32], slip: &mut [u8], item: u32) -> Ans
     }
     let mut arcs = [0u32; pass::ARC_NUMBERS];
     let mut marks = [0u8; pass::ITEMS];
-    let header = match reader::read(sheet, &mut arcs, &mut marks) {
+    let header = match sheet_reader::read(sheet, &mut arcs, &mut marks) {
         SheetRead::Taken(header) => header,
         SheetRead::Refused(why) => return Answer {
             number: why,
@@ -107,6 +107,6 @@ pub fn reason(sheet: &[u8], work: &mut [u32], slip: &mut [u8], item: u32) -> Ans
         slip,
         item as usize,
     );
-    lent::zero(work);
+    work::zero(work);
     answer
 }

@@ -44,7 +44,7 @@ fn main() {
     let read = io::count(got, &input);
     let mut work = [0u32; WORK_NUMBERS];
     let mut text = [0u8; TEXT_BYTES];
-    let length = report::report(&input[..read], &mut work, &mut text);
+    let length = text_report::report(&input[..read], &mut work, &mut text);
     if !io::write_all(STDOUT_FILENO, &text[..length]) {
         os::fail(b"ways: standard output");
     }

@@ -4,9 +4,9 @@ use native.Mathlib.Omega.{arith}
 use Rattle.sheet.specs.Sheet.{Sheet}
 use Rattle.sheet.specs.Slip.{readSlip}
 use Rattle.varint.specs.Varint.{after}
-use Rattle.reader.proofs.LoadedLaws.{loaded, unloaded}
-use Rattle.verify.specs.Check.{judgedOn}
-use Rattle.answers.specs.Answer.{answerOf}
+use Rattle.sheet_reader.proofs.LoadedLaws.{loaded, unloaded}
+use Rattle.check_rules.specs.Check.{judgedOn}
+use Rattle.check_answer.specs.Answer.{answerOf}
 use Rattle.checker.proofs.CheckedLaws.{checked-short, checked-refused, checked-slip}
 use borrow.Author.Needs.{needs}
 use Rattle.checker.proofs.check.Statement.{statement}

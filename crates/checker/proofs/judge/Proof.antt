@@ -1,8 +1,8 @@
 -- `checker::judge` meets its contract: 17 for a slip that is badly written, else what its lists draw. Assumes nothing.
 use mathlib.Core.Path.{refl, subst}
-use Rattle.required.specs.Held.{sheetOf}
-use Rattle.form.specs.Form.{SlipCounts}
-use Rattle.form.specs.declared.SlipRead.{SlipRead}
+use Rattle.sheet_required.specs.Held.{sheetOf}
+use Rattle.slip_reader.specs.Form.{SlipCounts}
+use Rattle.slip_reader.specs.declared.SlipRead.{SlipRead}
 use Rattle.checker.proofs.CheckedLaws.{answer-form, answer-unformed}
 use borrow.Author.Needs.{needs}
 use Rattle.checker.proofs.judge.Statement.{statement}

@@ -1,10 +1,10 @@
 -- `checker::judge_form` meets its contract: a list that is too long is not well formed. Assumes nothing.
 use mathlib.Core.Path.{refl, _∙_}
 use native.Mathlib.Omega.{arith}
-use Rattle.required.specs.Held.{sheetOf}
-use Rattle.form.specs.Form.{valuesAt}
-use Rattle.required.proofs.HeldLaws.{items-are}
-use Rattle.claim.proofs.FormLaws.{many-goals, many-reasons}
+use Rattle.sheet_required.specs.Held.{sheetOf}
+use Rattle.slip_reader.specs.Form.{valuesAt}
+use Rattle.sheet_required.proofs.HeldLaws.{items-are}
+use Rattle.check_claim.proofs.FormLaws.{many-goals, many-reasons}
 use Rattle.checker.proofs.AnswerLaws.{answer-formed}
 use borrow.Author.Needs.{needs}
 use Rattle.checker.proofs.judge_form.Statement.{statement}

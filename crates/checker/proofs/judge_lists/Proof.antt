@@ -2,11 +2,11 @@
 use mathlib.Core.Path.{refl, sym, ap, _∙_}
 use mathlib.Core.Bool.{true, false}
 use lib.ListN.{length, take}
-use Rattle.required.specs.Held.{sheetOf}
-use Rattle.form.specs.Form.{slipFrom, valuesAt}
-use Rattle.required.proofs.HeldLaws.{listed-front, items-are}
-use Rattle.claim.proofs.ListLaws.{passed, failed}
-use Rattle.claim.proofs.FormLaws.{formed-asked}
+use Rattle.sheet_required.specs.Held.{sheetOf}
+use Rattle.slip_reader.specs.Form.{slipFrom, valuesAt}
+use Rattle.sheet_required.proofs.HeldLaws.{listed-front, items-are}
+use Rattle.check_claim.proofs.ListLaws.{passed, failed}
+use Rattle.check_claim.proofs.FormLaws.{formed-asked}
 use Rattle.checker.proofs.AnswerLaws.{answer-formed, answer-judged, of-lists}
 use borrow.Author.Needs.{needs}
 use Rattle.checker.proofs.judge_lists.Statement.{statement}

@@ -1,7 +1,7 @@
 -- `greedy::begin` meets its contract: the rows start at the source and where each goal is left, and noting the goals leaves them. Assumes nothing.
 use native.Mathlib.Omega.{arith}
 use borrow.Author.Needs.{needs}
-use Rattle.turns.proofs.TurnLaws.{begun}
+use Rattle.greedy_turn.proofs.TurnLaws.{begun}
 use Rattle.greedy.proofs.begin.Statement.{statement}
 use Rattle.greedy.proofs.begin.Tie as tie
 

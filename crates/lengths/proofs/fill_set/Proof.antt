@@ -7,9 +7,9 @@ use lib.Bits.{and-le-r}
 use lib.Count.{trailingZeros, trailing-le}
 use lib.ListN.{length}
 use Rattle.rows.specs.Net.{Net}
-use Rattle.table.proofs.RestLaws.{Rest, Next, rest-begun, rest-next, rest-more}
-use Rattle.table.proofs.TableLaws.{set-begun, set-next, set-done, only-same, only-then, fits-kept}
-use Rattle.table.specs.Table.{Filled, FilledTo, TableOnly}
+use Rattle.goal_table.proofs.RestLaws.{Rest, Next, rest-begun, rest-next, rest-more}
+use Rattle.goal_table.proofs.TableLaws.{set-begun, set-next, set-done, only-same, only-then, fits-kept}
+use Rattle.goal_table.specs.Table.{Filled, FilledTo, TableOnly}
 use Rattle.lengths.proofs.fill_set.Statement.{statement}
 use Rattle.lengths.proofs.fill_set.Tie as tie
 

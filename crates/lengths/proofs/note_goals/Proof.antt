@@ -5,7 +5,7 @@ use native.Mathlib.Omega.{arith}
 use lib.ListN.{length, set, take, drop, length-set}
 use Rattle.rows.specs.Net.{netOf}
 use Rattle.lengths.proofs.PartLaws.{note-more, note-front, note-behind}
-use Rattle.table.specs.Table.{NotedTo}
+use Rattle.goal_table.specs.Table.{NotedTo}
 use Rattle.lengths.proofs.note_goals.Statement.{statement}
 use Rattle.lengths.proofs.note_goals.Tie as tie
 

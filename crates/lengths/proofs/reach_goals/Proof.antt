@@ -3,7 +3,7 @@ use Prim.Native.Nat.{_-_, _^_, _≤_}
 use native.Mathlib.Omega.{arith}
 use lib.Pow.{pow-mono}
 use Rattle.lengths.proofs.PartLaws.{no-goals, all-goals}
-use Rattle.table.proofs.TableLaws.{set-small}
+use Rattle.goal_table.proofs.TableLaws.{set-small}
 use borrow.Author.Needs.{needs}
 use Rattle.lengths.proofs.reach_goals.Statement.{statement}
 use Rattle.lengths.proofs.reach_goals.Tie as tie

@@ -6,7 +6,7 @@ use denote.Ref.{now}
 use lib.ListN.{length, length-set}
 use Rattle.walks.specs.Flat.{graphOf}
 use Rattle.lengths.proofs.PartLaws.{start-begun, start-more}
-use Rattle.table.specs.Table.{StartsTo}
+use Rattle.goal_table.specs.Table.{StartsTo}
 use Rattle.lengths.proofs.set_starts.Statement.{statement}
 use Rattle.lengths.proofs.set_starts.Tie as tie
 

@@ -4,7 +4,7 @@ use mathlib.Core.Path.{sym}
 use native.Mathlib.Omega.{arith}
 use lib.ListN.{length, take}
 use lib.Seq.{length-take-le}
-use Rattle.arcs.proofs.PackLaws.{packed-joins}
+use Rattle.row_arcs.proofs.PackLaws.{packed-joins}
 use Rattle.rows.specs.Net.{netOf}
 use Rattle.lengths.proofs.PartLaws.{front-count, front-starts, starts-fit, starts-of, rowed-of, drop-further}
 use borrow.Author.Needs.{needs}

@@ -2,7 +2,7 @@
 use native.Mathlib.Omega.{arith}
 use borrow.Author.Needs.{needs}
 use Rattle.sheet.specs.Sheet.{isForbidden}
-use Rattle.verdict.specs.Verdict.{fitsSheet, reasonsFor}
+use Rattle.pass_rules.specs.Verdict.{fitsSheet, reasonsFor}
 use Rattle.pass.proofs.list_reasons.Statement.{statement}
 use Rattle.pass.proofs.list_reasons.Tie as tie
 

@@ -4,9 +4,9 @@ use mathlib.Core.List.{[]}
 use Rattle.varint.specs.Varint.{got}
 use Rattle.sheet.specs.Sheet.{Sheet}
 use Rattle.sheet.proofs.RefusalLaws.{taken-refuses}
-use Rattle.verdict.specs.Pass.{passOn, passed}
+use Rattle.pass_rules.specs.Pass.{passOn, passed}
 use native.Mathlib.Omega.{arith}
-use Rattle.reader.proofs.LoadedLaws.{loaded, unloaded}
+use Rattle.sheet_reader.proofs.LoadedLaws.{loaded, unloaded}
 use Rattle.pass.proofs.OutcomeLaws.{short-work, short-slip, early, done}
 use Rattle.pass.proofs.PassLaws.{bad-sheet, good-sheet}
 use borrow.Author.Needs.{needs}
@@ -14,9 +14,9 @@ use Rattle.pass.proofs.pass.Statement.{statement}
 use Rattle.pass.proofs.pass.Tie as tie
 use Rattle.pass.proofs.pass.Reads as reads
 use Rattle.pass.proofs.pass.Lts as lts
-use Rattle.lent.proofs.zero.Reads as zero-reads
+use Rattle.work.proofs.zero.Reads as zero-reads
 use Rattle.pass.proofs.write_answer.Reads as write-answer-reads
-use Rattle.reader.proofs.read.Reads as read-reads
+use Rattle.sheet_reader.proofs.read.Reads as read-reads
 
 returns : tie.Need-returns
 unfolding passed

@@ -1,6 +1,6 @@
 -- `ways_pass` meets its contract: the pass over numbers, told in bytes. Assumes nothing.
 use borrow.Author.Needs.{needs}
-use Rattle.verdict.specs.Pass.{passOn, passed}
+use Rattle.pass_rules.specs.Pass.{passOn, passed}
 use Rattle.planner.specs.Layer.{passedBytes}
 use Rattle.planner.proofs.LayerLaws.{short-bytes, in-bytes, small}
 use Rattle.planner.proofs.WithinLaws.{pass-within}

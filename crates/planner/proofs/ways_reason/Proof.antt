@@ -1,6 +1,6 @@
 -- `ways_reason` meets its contract: reason over numbers, told in bytes. Assumes nothing.
 use borrow.Author.Needs.{needs}
-use Rattle.blame.specs.Reason.{reasonOn, reasoned}
+use Rattle.reason_rules.specs.Reason.{reasonOn, reasoned}
 use Rattle.planner.specs.Layer.{reasonedBytes}
 use Rattle.planner.proofs.LayerLaws.{short-bytes, in-bytes, small}
 use Rattle.planner.proofs.WithinLaws.{reason-within}

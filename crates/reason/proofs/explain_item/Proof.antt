@@ -4,7 +4,7 @@ use native.Mathlib.Omega.{arith}
 use lib.Seq.{length-take-le}
 use borrow.Author.Needs.{needs}
 use borrow.Author.Tests.{not-true, not-false}
-use Rattle.required.specs.Held.{sheetOf}
+use Rattle.sheet_required.specs.Held.{sheetOf}
 use Rattle.pass.proofs.AnswerLaws.{reasons-inside}
 use Rattle.reason.proofs.ItemLaws.{no-item, not-pruned, one-goal, pruned-unmet, item-room, explains}
 use Rattle.reason.proofs.explain_item.Statement.{statement}

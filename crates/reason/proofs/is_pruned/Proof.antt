@@ -1,16 +1,16 @@
 -- `reason::is_pruned` meets its contract. Assumes nothing.
 use mathlib.Core.Path.{sym, _∙_}
 use Rattle.sheet.specs.Sheet.{markOf}
-use Rattle.required.specs.Held.{sheetOf}
+use Rattle.sheet_required.specs.Held.{sheetOf}
 use Rattle.reason.proofs.ItemLaws.{not-standing, not-open, by-walks}
 use borrow.Author.Needs.{needs}
 use Rattle.reason.proofs.is_pruned.Statement.{statement}
 use Rattle.reason.proofs.is_pruned.Tie as tie
 use Rattle.reason.proofs.is_pruned.Reads as reads
 use Rattle.reason.proofs.is_pruned.Lts as lts
-use Rattle.fits.proofs.fill_rows.Reads as fill-rows-reads
-use Rattle.fits.proofs.fits_item.Reads as fits-item-reads
-use Rattle.judge.proofs.judge.Reads as judge-reads
+use Rattle.item_fits.proofs.fill_rows.Reads as fill-rows-reads
+use Rattle.item_fits.proofs.fits_item.Reads as fits-item-reads
+use Rattle.pass_verdict.proofs.judge.Reads as judge-reads
 
 slice-aggregate-fill-rows : tie.Need-slice-aggregate-fill-rows
 slice-aggregate-fill-rows c = search needs

@@ -5,17 +5,17 @@ use native.Mathlib.Omega.{arith}
 use Rattle.varint.specs.Varint.{got}
 use Rattle.sheet.specs.Sheet.{Sheet}
 use Rattle.sheet.proofs.RefusalLaws.{taken-refuses}
-use Rattle.reader.proofs.LoadedLaws.{loaded, unloaded}
+use Rattle.sheet_reader.proofs.LoadedLaws.{loaded, unloaded}
 use Rattle.pass.proofs.OutcomeLaws.{short-work, short-slip, early}
-use Rattle.blame.specs.Reason.{reasonOn, reasoned}
+use Rattle.reason_rules.specs.Reason.{reasonOn, reasoned}
 use Rattle.reason.proofs.SaidLaws.{bad-sheet, said}
 use borrow.Author.Needs.{needs}
 use Rattle.reason.proofs.reason.Statement.{statement}
 use Rattle.reason.proofs.reason.Tie as tie
 use Rattle.reason.proofs.reason.Reads as reads
 use Rattle.reason.proofs.reason.Lts as lts
-use Rattle.lent.proofs.zero.Reads as zero-reads
-use Rattle.reader.proofs.read.Reads as read-reads
+use Rattle.work.proofs.zero.Reads as zero-reads
+use Rattle.sheet_reader.proofs.read.Reads as read-reads
 use Rattle.reason.proofs.explain_item.Reads as explain-item-reads
 
 returns : tie.Need-returns

@@ -1,0 +1,31 @@
+// What check answers: the refusal number, and yes or no.
+ghost use mathlib.Core.Path.{_≡_};
+ghost use mathlib.Core.List.{[]};
+ghost use Rattle.varint.specs.Varint.{got, refuse};
+ghost use Rattle.check_answer.specs.Answer.{answerOf};
+
+// What check gives: the refusal number, 0 where it finished, and yes or no.
+pub struct Answer {
+    pub number: u32,
+    pub yes: bool,
+}
+
+// The answer of a call that is refused.
+pub fn refused(number: u32) -> Answer
+    ensures { λ r. ⌜ r ≡ answerOf (refuse number) ⌝ }
+{
+    Answer {
+        number: number,
+        yes: false,
+    }
+}
+
+// The answer of a call that finished.
+pub fn judged(yes: bool) -> Answer
+    ensures { λ r. ⌜ r ≡ answerOf (got yes []) ⌝ }
+{
+    Answer {
+        number: 0,
+        yes: yes,
+    }
+}

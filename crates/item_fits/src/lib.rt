@@ -1,0 +1,37 @@
+// Whether some walk within the limit meets an item, by the least lengths from the source and to the target (Propositions 1 and 2 of source document 002).
+ghost use mathlib.Core.Path.{_≡_};
+ghost use mathlib.Core.List.{[], _∷_};
+ghost use Prim.Native.Nat.{_+_, _<_};
+ghost use lib.ListN.{length};
+ghost use Rattle.pass_rules.specs.Verdict.{fitsSheet};
+ghost use Rattle.sheet_required.specs.Held.{sheetOf, Whole};
+ghost use Rattle.item_fits.specs.Rows.{Rows};
+use rows::ROW_LENGTH;
+use sheet::Header;
+
+// Fills the row from the source and behind it the row to the target.
+pub fn fill_rows(header: Header, arcs: &[u32], marks: &[u8], rows: &mut [u32])
+    requires { ⌜ Whole header (now arcs) (now marks) × (length (now rows) ≡ 128) ⌝ }
+    ensures { λ _. ⌜ Rows header (now (arcs .entry)) (now (marks .entry)) (now (rows .exit)) ⌝ }
+{
+    let nodes = header.nodes;
+    let source = header.source;
+    let target = header.target;
+    let limit = header.limit;
+    row_fill::row_from(nodes, arcs, marks, source, &mut rows[..ROW_LENGTH], limit);
+    row_fill::row_to(nodes, arcs, marks, target, &mut rows[ROW_LENGTH..], limit);
+}
+
+// Whether some walk within the limit, clear of the forbidden items, meets the item: to its entry, over it, and on from its exit.
+pub fn fits_item(header: Header, arcs: &[u32], marks: &[u8], rows: &[u32], item: usize) -> bool
+    requires { ⌜ Rows header (now arcs) (now marks) (now rows) × (item < header .nodes + header .arcs) ⌝ }
+    ensures { λ r. ⌜ r ≡ fitsSheet (sheetOf header (now (arcs .entry)) (now (marks .entry))) (item ∷ []) ⌝ }
+{
+    let nodes = header.nodes;
+    let limit = header.limit;
+    let entry = goals::entry(nodes, arcs, item) as usize;
+    let exit = goals::exit(nodes, arcs, item);
+    let own = goals::own(nodes, arcs, marks, item, limit);
+    let past = goals::sum(rows[entry], own, limit);
+    goals::sum(past, rows[ROW_LENGTH + exit], limit) <= limit
+}

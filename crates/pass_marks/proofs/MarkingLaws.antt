@@ -1,0 +1,93 @@
+-- The new marks: which nodes are forced, an item's mark by cases, and the marks written one by one. Assumes nothing.
+use Prim.Native.Nat.{ℕ, suc, _+_, _≤_, _<_}
+use mathlib.Core.Path.{_≡_, refl, sym, ap, _∙_}
+use mathlib.Core.Logic.{_⊎_, inl, inr}
+use mathlib.Core.Bool.{Bool, true, false, _||_}
+use mathlib.Core.List.{List, [], _∷_, _++_}
+use native.Mathlib.Omega.{arith}
+use native.Mathlib.Numerals.{add-one}
+use lib.ListN.{length, getD, take, set, length-set}
+use lib.Seq.{getD-set-same, getD-set-other, take-suc, length-take-le, take-all}
+use lib.Dec.{eqb}
+use borrow.Author.Tests.{eqb-true, eqb-false, ne-eqb, lt-ltb, le-ltb}
+use Rattle.sheet.specs.declared.Header.{Header}
+use Rattle.lists.proofs.FrontLaws.{push-at, length-front}
+use Rattle.lists.proofs.TestLaws.{true-or-false, true-or}
+use Rattle.lists.specs.Lists.{front, pick}
+use Rattle.sheet_required.specs.Held.{Ends, sheetOf, Whole}
+use Rattle.sheet.proofs.MarkLaws.{is-open}
+use Rattle.sheet.specs.Sheet.{Sheet, markOf, isOpen, allArcs, endsMandatory}
+use Rattle.pass_rules.proofs.SlipOfPass.{new-marks-size, new-marks-at}
+use Rattle.pass_rules.proofs.VerdictLaws.{other-mark}
+use Rattle.pass_rules.specs.Verdict.{fitsSheet, isPruned, isForced, newMark, newMarks}
+use Rattle.sheet_required.proofs.HeldLaws.{items-are}
+use Rattle.pass_marks.specs.Forced.{Forced}
+
+module _ (S : Sheet) (ends : List ℕ) (E : Ends S ends) (few : S .graph .nodes ≤ 64) (s : S .source < S .graph .nodes) (t : S .target < S .graph .nodes) where
+  one : List ℕ
+  one = set ends (S .source) 1
+
+  -- source and target are put in
+  pub forced-are : Forced S (set (set ends (S .source) 1) (S .target) 1)
+  unfolding isForced
+  forced-are = record { size = simp length-set (E .size); each = λ p h. rw (lt-ltb p (S .graph .nodes) h) (go p h (true-or-false (eqb p (S .target))) (true-or-false (eqb p (S .source)))) }
+    where
+      either : (a b c : Bool) → (a ≡ true) ⊎ (b ≡ true) → true ≡ (a || (b || c))
+      either a b c (inl q) = rw q
+      either a b c (inr q) = rw q (sym (true-or a true refl))
+
+      go : (p : ℕ) → p < S .graph .nodes → (eqb p (S .target) ≡ true) ⊎ (eqb p (S .target) ≡ false) → (eqb p (S .source) ≡ true) ⊎ (eqb p (S .source) ≡ false)
+          → eqb (getD (set (set ends (S .source) 1) (S .target) 1) p 0) 1 ≡ (eqb p (S .source) || (eqb p (S .target) || endsMandatory S p (allArcs (S .graph))))
+      go p h (inl q) r =
+          let z : p ≡ S .target = eqb-true p (S .target) q in
+          let y : getD (set (set ends (S .source) 1) (S .target) 1) p 0 ≡ 1 = rw z (getD-set-same (set ends (S .source) 1) (S .target) 1 0 (rw length-set (omega (arith, E .size)))) in
+          rw y (either (eqb p (S .source)) (eqb p (S .target)) (endsMandatory S p (allArcs (S .graph))) (inr q))
+      go p h (inr q) (inl r) =
+          let z : p ≡ S .source = eqb-true p (S .source) r in
+          let y : getD (set (set ends (S .source) 1) (S .target) 1) p 0 ≡ 1 =
+          getD-set-other (set ends (S .source) 1) (S .target) p 1 0 (eqb-false p (S .target) q) ∙ rw z (getD-set-same ends (S .source) 1 0 (omega (arith, E .size))) in
+          rw y (either (eqb p (S .source)) (eqb p (S .target)) (endsMandatory S p (allArcs (S .graph))) (inl r))
+      go p h (inr q) (inr r) =
+          let y : getD (set (set ends (S .source) 1) (S .target) 1) p 0 ≡ getD ends p 0 =
+          getD-set-other (set ends (S .source) 1) (S .target) p 1 0 (eqb-false p (S .target) q) ∙ getD-set-other ends (S .source) p 1 0 (eqb-false p (S .source) r) in
+          rw (y, r, q) (E .each p (omega arith))
+
+-- an item's new mark by cases
+pub mark-kept : (S : Sheet) (i m : ℕ) → markOf S i ≡ m → (m ≡ 0 → ⊥) → m ≡ newMark S i
+unfolding isOpen
+mark-kept S i m e n = sym (other-mark S i (ne-eqb (markOf S i) 0 (λ z. n (sym e ∙ z))) ∙ e)
+
+pub mark-pruned : (S : Sheet) (i : ℕ) → markOf S i ≡ 0 → fitsSheet S (i ∷ []) ≡ false → 2 ≡ newMark S i
+unfolding newMark isPruned
+mark-pruned S i e f = rw (is-open S i e, f)
+
+pub mark-open : (S : Sheet) (i : ℕ) (r : ℕ) (t : Bool) → markOf S i ≡ 0 → fitsSheet S (i ∷ []) ≡ true → isForced S i ≡ t → r ≡ pick t 1 0 → r ≡ newMark S i
+unfolding newMark isPruned
+mark-open S i r t e f g q = rw (is-open S i e, f, g, e) q
+
+-- no arc is forced
+pub arc-free : (S : Sheet) (i : ℕ) → S .graph .nodes ≤ i → isForced S i ≡ false
+unfolding isForced
+arc-free S i h = rw (le-ltb i (S .graph .nodes) h)
+
+-- the marks written below i
+abbrev pub Marking : Sheet → ℕ → List ℕ → List ℕ → ℕ → Type 0
+Marking S n d out i = (i ≤ n) × (out ≡ front (take i (newMarks S)) d)
+
+module _ {h : Header} {arcs marks : List ℕ} (W : Whole h arcs marks) (d out : List ℕ) (i : ℕ) where
+  sized : length (newMarks (sheetOf h arcs marks)) ≡ h .nodes + h .arcs
+  sized = new-marks-size (sheetOf h arcs marks) ∙ items-are W
+
+  pub marking-long : Marking (sheetOf h arcs marks) (h .nodes + h .arcs) d out i → h .nodes + h .arcs ≤ length d → length out ≡ length d
+  marking-long m l = ap length (m .1) ∙ length-front (take i (newMarks (sheetOf h arcs marks))) d (rw (length-take-le i (newMarks (sheetOf h arcs marks)) (omega (arith, m .0, sized))) (omega (arith, m .0)))
+
+  pub marking-more : (v : ℕ) → Marking (sheetOf h arcs marks) (h .nodes + h .arcs) d out i → i < h .nodes + h .arcs → h .nodes + h .arcs ≤ length d
+      → v ≡ newMark (sheetOf h arcs marks) i → Marking (sheetOf h arcs marks) (h .nodes + h .arcs) d (set out i v) (i + 1)
+  marking-more v m l r e =
+      let S = sheetOf h arcs marks in
+      let z : take (suc i) (newMarks S) ≡ take i (newMarks S) ++ (v ∷ []) =
+      take-suc (newMarks S) i 0 (omega (arith, sized)) ∙ ap (λ (x : ℕ). take i (newMarks S) ++ (x ∷ [])) (new-marks-at S i (omega (arith, items-are W)) ∙ sym e) in
+      (omega arith, push-at (take i (newMarks S)) d out i v (m .1) (length-take-le i (newMarks S) (omega (arith, sized))) (omega arith) ∙ rw (add-one, z))
+
+  pub marking-done : Marking (sheetOf h arcs marks) (h .nodes + h .arcs) d out i → h .nodes + h .arcs ≤ i → out ≡ front (newMarks (sheetOf h arcs marks)) d
+  marking-done m l = m .1 ∙ rw (take-all i (newMarks (sheetOf h arcs marks)) (omega (arith, sized)))

@@ -1,0 +1,89 @@
+// The marks that a pass leaves (document 01, 'The pass, in its order').
+ghost use mathlib.Core.Path.{_≡_};
+ghost use mathlib.Core.List.{_∷_};
+ghost use Prim.Native.Nat.{_+_, _≤_, _<_};
+ghost use lib.ListN.{length};
+ghost use Rattle.lists.specs.Lists.{front};
+ghost use Rattle.pass_rules.specs.Verdict.{newMark, newMarks};
+ghost use Rattle.sheet_required.specs.Held.{sheetOf, Whole};
+ghost use Rattle.item_fits.specs.Rows.{Rows};
+ghost use Rattle.pass_marks.specs.Forced.{Forced};
+use sheet::Header;
+
+const OPEN: u8 = 0;
+
+const MANDATORY: u8 = 1;
+
+const FORBIDDEN: u8 = 2;
+
+// The nodes that become mandatory where they are open, marked 1: source, target and the ends of mandatory arcs.
+fn forced_nodes(header: Header, arcs: &[u32], marks: &[u8]) -> [u8; 64]
+    requires { ⌜ Whole header (now arcs) (now marks) ⌝ }
+    ensures { λ r. ⌜ Forced (sheetOf header (now (arcs .entry)) (now (marks .entry))) r ⌝ }
+{
+    let mut forced = sheet_required::ends_of(header, arcs, marks);
+    let source = header.source;
+    let target = header.target;
+    forced[source] = 1;
+    forced[target] = 1;
+    forced
+}
+
+// An item's mark after a pass of verdict 0: an open item that no walk meets becomes forbidden, an open node that is forced mandatory.
+fn new_mark(
+    header: Header,
+    arcs: &[u32],
+    marks: &[u8],
+    rows: &[u32],
+    forced: &[u8],
+    item: usize,
+) -> u8
+    requires { ⌜ Rows header (now arcs) (now marks) (now rows) × (item < header .nodes + header .arcs) ⌝ }
+    requires { ⌜ Forced (sheetOf header (now arcs) (now marks)) (now forced) ⌝ }
+    ensures { λ r. ⌜ r ≡ newMark (sheetOf header (now (arcs .entry)) (now (marks .entry))) item ⌝ }
+{
+    let mark = marks[item];
+    if mark != OPEN {
+        return mark;
+    }
+    if !item_fits::fits_item(header, arcs, marks, rows, item) {
+        return FORBIDDEN;
+    }
+    if item < header.nodes {
+        if forced[item] == 1 {
+            return MANDATORY;
+        }
+    }
+    OPEN
+}
+
+// Writes the marks after a pass of verdict 0 over the front of `out`.
+fn put_marks(header: Header, arcs: &[u32], marks: &[u8], rows: &[u32], out: &mut [u8])
+    requires { ⌜ Rows header (now arcs) (now marks) (now rows) × (header .nodes + header .arcs ≤ length (now out)) ⌝ }
+    ensures { λ _. ⌜ now (out .exit) ≡ front (newMarks (sheetOf header (now (arcs .entry)) (now (marks .entry)))) (now (out .entry)) ⌝ }
+{
+    let forced = forced_nodes(header, arcs, marks);
+    let items = header.nodes + header.arcs;
+    let mut i: usize = 0;
+    while i < items {
+        out[i] = new_mark(header, arcs, marks, rows, &forced, i);
+        i += 1;
+    }
+}
+
+// Writes the slip of verdict 0, the number 0 and the new marks, over the front of `slip` and gives its length.
+pub fn write_stands(
+    header: Header,
+    arcs: &[u32],
+    marks: &[u8],
+    rows: &[u32],
+    slip: &mut [u8],
+) -> usize
+    requires { ⌜ Rows header (now arcs) (now marks) (now rows) × (1200 ≤ length (now slip)) ⌝ }
+    ensures { λ r. ⌜ r ≡ length (0 ∷ newMarks (sheetOf header (now (arcs .entry)) (now (marks .entry)))) ⌝ }
+    ensures { λ _. ⌜ now (slip .exit) ≡ front (0 ∷ newMarks (sheetOf header (now (arcs .entry)) (now (marks .entry)))) (now (slip .entry)) ⌝ }
+{
+    slip[0] = 0;
+    put_marks(header, arcs, marks, rows, &mut slip[1..]);
+    1 + header.nodes + header.arcs
+}

@@ -1,0 +1,163 @@
+-- No route is lost and none is won: what a route meets is met by a walk within the limit, so its sheet stands and the pass leaves it alone; and with the
+-- marks that the pass leaves, more is asked. Assumes nothing.
+use Prim.Native.Nat.{ℕ, suc, _+_, _≤_, _<_}
+use mathlib.Core.Path.{_≡_, sym, ap, _∙_}
+use mathlib.Core.Logic.{_⊎_, inl, inr}
+use mathlib.Core.Bool.{Bool, true, false, not, _&&_, _||_, true≢false}
+use mathlib.Core.List.{List, []}
+use native.Mathlib.Omega.{arith}
+use lib.ListN.{length, List·getD-eq-default}
+use lib.Dec.{eqb, ltb}
+use borrow.Author.Tests.{eqb-true, ltb-true, ltb-false}
+use Rattle.lists.proofs.AscendLaws.{span-member}
+use Rattle.lists.proofs.MemberLaws.{member-none, member-keep, keep-member, every-all}
+use Rattle.lists.proofs.TestLaws.{true-or-false, or-true, and-true, true-and, false-of}
+use Rattle.lists.specs.Lists.{member}
+use Rattle.sheet.proofs.MarkLaws.{Required, required-is, is-item, item-is, ends-mandatory, is-forbidden, forbidden-is, is-mandatory, mandatory-is}
+use Rattle.sheet.specs.Sheet.{Sheet, markOf, isOpen, isMandatory, isForbidden, allItems, allArcs, endsMandatory, required}
+use Rattle.walks.proofs.FitsLaws.{fit-narrower}
+use Rattle.walks.proofs.Join.{meets-all, meets-at, ends-met, fit-clear, first-item, last-item}
+use Rattle.walks.proofs.LeastLaw.{fit-walk}
+use Rattle.walks.specs.Graph.{Graph, itemCount, arcItem, tailOf, headOf, items, chain, clear, meets, fit}
+use Rattle.walks.specs.Walk.{Walk}
+use Rattle.pass_rules.proofs.SlipOfPass.{new-marks-size, new-marks-at}
+use Rattle.pass_rules.proofs.VerdictLaws.{SomeWalkOn, met-fits, one-fits, Stands, pruned-mark, forced-mark, other-mark, forbidden-stays, mandatory-stays}
+use Rattle.pass_rules.specs.Route.{Route, mandatory, marked}
+use Rattle.pass_rules.specs.Verdict.{newMark, newMarks, isForced}
+
+module _ (S : Sheet) (w : List ℕ) (R : Route S w) where
+  met : List ℕ
+  met = items (S .graph) (S .source) w
+
+  walk : Walk (S .graph) (isForbidden S) (S .source) (S .target) w
+  walk = fit-walk (S .graph) (isForbidden S) (mandatory S) (S .target) (S .source) w (R .obeys) .0
+
+  mandatory-met : (i : ℕ) → i < itemCount (S .graph) → isMandatory S i ≡ true → member i met ≡ true
+  unfolding mandatory met
+  mandatory-met i h m =
+      meets-at (S .graph) (mandatory S) (S .source) w i (fit-walk (S .graph) (isForbidden S) (mandatory S) (S .target) (S .source) w (R .obeys) .1)
+      (member-keep (isMandatory S) i (allItems (S .graph)) (is-item (S .graph) i h) m)
+
+  -- the ends of a mandatory arc are met
+  end-met : (p : ℕ) → endsMandatory S p (allArcs (S .graph)) ≡ true → member p met ≡ true
+  unfolding allArcs arcItem met
+  end-met p q =
+      let f = ends-mandatory S p (allArcs (S .graph)) q in
+      let h : f .0 < length (S .graph .arcs) = omega (arith, span-member (length (S .graph .arcs)) 0 (f .0) (f .1) .1) in
+      end (f .0) (ends-met (S .graph) (isForbidden S) (S .target) (f .0) (S .source) w walk (mandatory-met (S .graph .nodes + f .0) (omega arith) (f .2))) (f .3)
+    where
+      end : (l : ℕ) → (member (tailOf (S .graph) l) met ≡ true) × (member (headOf (S .graph) l) met ≡ true)
+          → (tailOf (S .graph) l ≡ p) ⊎ (headOf (S .graph) l ≡ p) → member p met ≡ true
+      end l e (inl q) = rw (← q) (e .0)
+      end l e (inr q) = rw (← q) (e .1)
+
+  required-met : (p : ℕ) → member p (required S) ≡ true → member p met ≡ true
+  required-met p m = let r = required-is S p m in go r (r .demanded)
+    where
+      go : Required S p → (isMandatory S p ≡ true) ⊎ (endsMandatory S p (allArcs (S .graph)) ≡ true) → member p met ≡ true
+      go r (inl q) = mandatory-met p (omega (arith, r .node)) q
+      go r (inr q) = end-met p q
+
+  some : SomeWalkOn S (mandatory S)
+  some = record { way = w; fitting = R .obeys; short = R .short }
+
+  -- the route's sheet is not refused
+  pub route-stands : Stands S
+  unfolding met some
+  route-stands = record {
+    some = met-fits S (mandatory S) some [] (λ g q. absurd (member-none g q));
+    each = λ i h m. one-fits S (mandatory S) some i (mandatory-met i h m);
+    together = met-fits S (mandatory S) some (required S) required-met;
+  }
+
+  -- no item that the route meets ends forbidden
+  pub route-clear : (i : ℕ) → newMark S i ≡ 2 → member i (items (S .graph) (S .source) w) ≡ false
+  unfolding met some
+  route-clear i e = false-of (member i met) (λ m. go m (true-or-false (isOpen S i)))
+    where
+      go : member i met ≡ true → (isOpen S i ≡ true) ⊎ (isOpen S i ≡ false) → ⊥
+      go m (inl o) = true≢false (sym (one-fits S (mandatory S) some i m) ∙ pruned-mark S i o .0 e)
+      go m (inr o) =
+          true≢false (sym (is-forbidden S i (sym (other-mark S i o) ∙ e))
+          ∙ fit-clear (S .graph) (isForbidden S) (mandatory S) (S .source) (S .target) w i (R .obeys) m)
+
+  -- and it meets each item that ends mandatory
+  pub route-meets : (i : ℕ) → i < itemCount (S .graph) → newMark S i ≡ 1 → member i (items (S .graph) (S .source) w) ≡ true
+  unfolding isForced met
+  route-meets i h e = go (true-or-false (isOpen S i))
+    where
+      forced : (eqb i (S .source) ≡ true) ⊎ ((eqb i (S .target) || endsMandatory S i (allArcs (S .graph))) ≡ true) → member i met ≡ true
+      forced (inl q) = rw (eqb-true i (S .source) q) (first-item (S .graph) (S .source) w)
+      forced (inr q) = last (or-true (eqb i (S .target)) (endsMandatory S i (allArcs (S .graph))) q)
+        where
+          last : (eqb i (S .target) ≡ true) ⊎ (endsMandatory S i (allArcs (S .graph)) ≡ true) → member i met ≡ true
+          last (inl q) = rw (eqb-true i (S .target) q) (last-item (S .graph) (isForbidden S) (S .source) (S .target) w walk)
+          last (inr q) = end-met i q
+
+      go : (isOpen S i ≡ true) ⊎ (isOpen S i ≡ false) → member i met ≡ true
+      go (inl o) =
+          let f = and-true (ltb i (S .graph .nodes)) (eqb i (S .source) || (eqb i (S .target) || endsMandatory S i (allArcs (S .graph)))) (forced-mark S i o e) in
+          forced (or-true (eqb i (S .source)) (eqb i (S .target) || endsMandatory S i (allArcs (S .graph))) (f .1))
+      go (inr o) = mandatory-met i h (is-mandatory S i (sym (other-mark S i o) ∙ e))
+
+-- a walk that fits still does where it meets nothing closed and all that is asked
+fit-again : (G : Graph) (c c′ : ℕ → Bool) (gs gs′ : List ℕ) (a b : ℕ) (w : List ℕ) → fit G c gs a b w ≡ true
+    → ((i : ℕ) → member i (items G a w) ≡ true → c′ i ≡ false) → ((g : ℕ) → member g gs′ ≡ true → member g (items G a w) ≡ true) → fit G c′ gs′ a b w ≡ true
+unfolding fit clear
+fit-again G c c′ gs gs′ a b w e o m =
+    let s = and-true (chain G a b w) (clear G c a w && meets G gs a w) e in
+    true-and (s .0) (true-and (every-all (λ i. not (c′ i)) (items G a w) (λ i q. ap not (o i q))) (meets-all G gs′ a w m))
+
+-- The sheet with the marks that the pass leaves. What was forbidden or mandatory still is, and a route keeps what is added: so the routes are the same.
+module _ (S : Sheet) where
+  left : Sheet
+  left = marked S (newMarks S)
+
+  left-mark : (i : ℕ) → i < itemCount (S .graph) → markOf left i ≡ newMark S i
+  unfolding left markOf
+  left-mark i h = new-marks-at S i h
+
+  -- past the items there is no mark
+  left-item : (i m : ℕ) → markOf left i ≡ suc m → i < itemCount (S .graph)
+  unfolding left markOf
+  left-item i m e = go (true-or-false (ltb i (itemCount (S .graph))))
+    where
+      go : (ltb i (itemCount (S .graph)) ≡ true) ⊎ (ltb i (itemCount (S .graph)) ≡ false) → i < itemCount (S .graph)
+      go (inl q) = ltb-true i (itemCount (S .graph)) q
+      go (inr q) =
+          let h : length (newMarks S) ≤ i = omega (arith, ltb-false i (itemCount (S .graph)) q, new-marks-size S) in
+          absurd (omega (arith, List·getD-eq-default (newMarks S) 0 h, e))
+
+  pub route-left : (w : List ℕ) → Route S w → Route (marked S (newMarks S)) w
+  unfolding left mandatory
+  route-left w R = record {
+    obeys = fit-again (S .graph) (isForbidden S) (isForbidden left) (mandatory S) (mandatory left) (S .source) (S .target) w (R .obeys) (λ i m. false-of (isForbidden left i) (λ q. clear-of i m (forbidden-is left i q))) meets;
+    simple = R .simple;
+    short = R .short;
+  }
+    where
+      clear-of : (i : ℕ) → member i (items (S .graph) (S .source) w) ≡ true → markOf left i ≡ 2 → ⊥
+      clear-of i m e = true≢false (sym m ∙ route-clear S w R i (sym (left-mark i (left-item i 1 e)) ∙ e))
+
+      meets : (g : ℕ) → member g (mandatory left) ≡ true → member g (items (S .graph) (S .source) w) ≡ true
+      meets g m =
+          let k = keep-member (isMandatory left) g (allItems (S .graph)) m in
+          let h = item-is (S .graph) g (k .0) in
+          route-meets S w R g h (sym (left-mark g h) ∙ mandatory-is left g (k .1))
+
+  pub left-route : (w : List ℕ) → Route (marked S (newMarks S)) w → Route S w
+  unfolding left mandatory
+  left-route w R = record {
+    obeys = fit-narrower (S .graph) (isForbidden left) (isForbidden S) (mandatory left) (mandatory S) (S .source) (S .target) w clear-of asked (R .obeys);
+    simple = R .simple;
+    short = R .short;
+  }
+    where
+      clear-of : (i : ℕ) → i < itemCount (S .graph) → isForbidden left i ≡ false → isForbidden S i ≡ false
+      clear-of i h o = false-of (isForbidden S i) (λ q. true≢false (sym (is-forbidden left i (left-mark i h ∙ forbidden-stays S i (forbidden-is S i q))) ∙ o))
+
+      asked : (i : ℕ) → member i (mandatory S) ≡ true → member i (mandatory left) ≡ true
+      asked i m =
+          let k = keep-member (isMandatory S) i (allItems (S .graph)) m in
+          let h = item-is (S .graph) i (k .0) in
+          member-keep (isMandatory left) i (allItems (S .graph)) (k .0) (is-mandatory left i (left-mark i h ∙ mandatory-stays S i (mandatory-is S i (k .1))))

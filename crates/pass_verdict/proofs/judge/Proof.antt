@@ -1,0 +1,75 @@
+-- `judge::judge` meets its contract: the three tests in document 01's order. Assumes nothing.
+use mathlib.Core.Path.{refl, sym, _∙_}
+use native.Mathlib.Omega.{arith}
+use lib.Seq.{take-suc-set}
+use borrow.Author.Tests.{lt-leb}
+use Rattle.sheet_required.specs.Held.{sheetOf}
+use Rattle.item_fits.proofs.FitLaws.{target-fits, some-walk}
+use Rattle.pass_verdict.proofs.JudgeLaws.{unmet-found, unmet-empty, judged-one, judged-two}
+use borrow.Author.Needs.{needs}
+use Rattle.pass_verdict.proofs.judge.Statement.{statement}
+use Rattle.pass_verdict.proofs.judge.Tie as tie
+
+mul-if1 : tie.Need-mul-if1
+mul-if1 c = search needs
+
+shared-slice-read-if1 : tie.Need-shared-slice-read-if1
+shared-slice-read-if1 c = search needs
+
+returns : tie.Need-returns
+returns c =
+    let s = c .before .before .before .before .before .before .before .before in
+    let S = sheetOf (s .args .header) (s .args .arcs .now) (s .args .marks .now) in
+    (judged-one S _ (sym (target-fits (s .pre .0) _ (s .pre .0 .there (s .args .header .target) (s .pre .0 .whole .target))) ∙ lt-leb _ _ (c .if1 .taken)), (λ q. absurd (omega arith), refl))
+
+first-unmet-requires : tie.Need-first-unmet-requires
+first-unmet-requires c κs = search needs
+
+add-if2 : tie.Need-add-if2
+add-if2 c = search needs
+
+slice-write-goals : tie.Need-slice-write-goals
+slice-write-goals c = search needs
+
+same-length : tie.Need-same-length
+same-length c = search needs
+
+returns-2 : tie.Need-returns-2
+returns-2 c =
+    let s = c .before .before .before .before .before .before .before .before .before .before .before in
+    let S = sheetOf (s .args .header) (s .args .arcs .now) (s .args .marks .now) in
+    let u = c .before .before .first-unmet in
+    let f = unmet-found (s .pre .0 .whole) (u .result) (u .ensures) (c .if2 .taken) in
+    (judged-two S (u .result) (f .0) _ (some-walk (s .pre .0) (c .before .before .before .if1 .left)) (f .1) (take-suc-set (s .args .goals .now) 0 (u .result) (omega arith)), (λ q. absurd (omega arith), refl))
+
+judge-together-requires : tie.Need-judge-together-requires
+judge-together-requires c κs =
+    let s = c .before .before .before .before .before .before .before .before .before .before .before .before .before in
+    let u = c .before .before .before .before .first-unmet in
+    ((s .pre .0 .whole, s .pre .1, s .pre .2), (some-walk (s .pre .0) (c .before .before .before .before .before .if1 .left), unmet-empty (s .pre .0 .whole) (u .result) (u .ensures) (c .before .before .if2 .left)))
+
+same-length-2 : tie.Need-same-length-2
+same-length-2 c = search needs
+
+same-length-3 : tie.Need-same-length-3
+same-length-3 c = search needs
+
+returns-3 : tie.Need-returns-3
+returns-3 c = search needs
+
+pub judge-spec : {M : Type 1} → statement M
+judge-spec =
+    tie.close
+    (tie.spec
+    mul-if1
+    shared-slice-read-if1
+    returns
+    first-unmet-requires
+    add-if2
+    slice-write-goals
+    same-length
+    returns-2
+    judge-together-requires
+    same-length-2
+    same-length-3
+    returns-3)

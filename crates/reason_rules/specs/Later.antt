@@ -1,0 +1,42 @@
+-- The words of demand 3 (document 01, 'Reasons').
+use Prim.Native.Nat.{ℕ, _≤_, _<_}
+use mathlib.Core.Path.{_≡_}
+use mathlib.Core.Logic.{_⊎_}
+use mathlib.Core.Bool.{true}
+use mathlib.Core.List.{List, []}
+use lib.ListN.{length}
+use Rattle.lists.specs.Lists.{member}
+use Rattle.varint.specs.Varint.{got}
+use Rattle.walks.specs.Graph.{Graph, tailOf, headOf, weightOf}
+use Rattle.sheet.specs.Sheet.{Sheet, isMandatory, isForbidden, required}
+use Rattle.sheet.specs.Slip.{Slip, readSlip}
+use Rattle.pass_rules.specs.Accepted.{accepted}
+use Rattle.pass_rules.specs.Pass.{finished}
+use Rattle.reason_rules.specs.Reason.{reasonOn}
+
+-- The slip that reason writes for an item has these goals and reasons.
+pub record Explains (sheet : List ℕ) (i : ℕ) (s : Slip) : Type 0 where
+  pub slip : List ℕ
+  pub finishes : reasonOn sheet i ≡ finished slip
+  pub says : readSlip slip ≡ got s []
+
+-- Two sheets have the same map: n, m and, arc number by arc number, tails, heads and minutes agree.
+pub record SameMap (G H : Graph) : Type 0 where
+  pub nodes : H .nodes ≡ G .nodes
+  pub count : length (H .arcs) ≡ length (G .arcs)
+  pub tails : (l : ℕ) → l < length (G .arcs) → tailOf H l ≡ tailOf G l
+  pub heads : (l : ℕ) → l < length (G .arcs) → headOf H l ≡ headOf G l
+  pub weights : (l : ℕ) → l < length (G .arcs) → weightOf H l ≡ weightOf G l
+
+-- An accepted sheet with the same map, source and target, every listed closure shut and no greater limit, whatever else it marks.
+pub record Later (S : Sheet) (list : List ℕ) (sheet : List ℕ) (T : Sheet) : Type 0 where
+  pub accepts : accepted sheet ≡ got T []
+  pub map : SameMap (S .graph) (T .graph)
+  pub source : T .source ≡ S .source
+  pub target : T .target ≡ S .target
+  pub closed : (j : ℕ) → member j list ≡ true → isForbidden T j ≡ true
+  pub limit : T .limit ≤ S .limit
+
+-- A goal is demanded on a sheet that has it as mandatory or as a required node.
+abbrev pub Demanded : Sheet → ℕ → Type 0
+Demanded S g = (isMandatory S g ≡ true) ⊎ (member g (required S) ≡ true)

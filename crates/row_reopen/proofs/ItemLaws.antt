@@ -1,0 +1,64 @@
+-- What the code answers once an item is opened: a node, an arc to a closed node, and any other arc. Assumes nothing.
+use Prim.Native.Nat.{ℕ, _+_, _-_, _≤_, _<_}
+use mathlib.Core.Path.{_≡_, refl, sym, _∙_}
+use mathlib.Core.Bool.{Bool, true, false, true≢false, false≢true}
+use mathlib.Core.List.{List}
+use native.Mathlib.Omega.{arith}
+use borrow.Author.Tests.{lt-ltb, le-ltb}
+use lib.ListN.{length}
+use Rattle.walks.specs.Graph.{closedIn}
+use Rattle.rows.specs.Bits.{bitOf}
+use Rattle.rows.specs.Held.{missing}
+use Rattle.rows.specs.Net.{Net, netOf, arcCount, tailIn, headIn, weightIn}
+use Rattle.rows.specs.Rows.{RowsAre, RowsSound, StartsOf}
+use Rattle.row_reopen.specs.Openings.{Saves, Kept, RowsMendable, Entering, ItemOpened}
+use Rattle.row_reopen.proofs.RowsOpened.{opened-starts, opened-sound, opened-mendable, arc-kept, arc-shut, arc-mendable}
+use Rattle.row_reopen.proofs.SavesLaws.{saves-shut}
+
+-- what mending gives for a change
+abbrev pub Mending : ℕ → Bool → ℕ → ℕ → ℕ → List ℕ → List ℕ → List ℕ → ℕ → List ℕ → List ℕ → Type 0
+Mending cap node u v w ys marks starts active work after =
+    (N : Net) → StartsOf N ys marks starts → RowsSound N cap starts work → RowsMendable cap ys marks starts active work → Kept N cap node u v w starts work
+    → RowsAre N cap starts (length starts) after
+
+module _ (n : ℕ) (xs : List ℕ) (i cap : ℕ) (marks ys starts work after : List ℕ) (kept active : ℕ) (small : cap < missing) where
+  pub item-node : i < n → Entering (arcCount ys) ys i active → Saves (length starts) cap true 0 0 0 work after kept
+      → Mending cap true 0 0 0 ys marks starts active work after → ItemOpened n xs i cap marks ys starts work after kept
+  item-node h E S M = record {
+    rows = λ old O R.
+        M (netOf n xs marks) (opened-starts O) (opened-sound O cap work small R) (opened-mendable O h cap active work small E R) (λ j l q. absurd (true≢false q));
+    saves = rw (lt-ltb i n h) (record {
+      same = S .same;
+      copies = S .copies;
+      unkept = S .unkept;
+      beside = S .beside;
+      none = S .none;
+      cuts = λ j l b q. absurd (true≢false q);
+      nodes = S .nodes;
+    });
+    shut = λ l. absurd (omega arith);
+  }
+
+  module _ (arc : n ≤ i) where
+    at : i ≡ n + (i - n)
+    at = omega arith
+
+    pub item-arc : closedIn marks (headIn xs (i - n)) ≡ false → bitOf active (tailIn xs (i - n)) ≡ 1
+        → Saves (length starts) cap false (tailIn xs (i - n)) (headIn xs (i - n)) (weightIn xs (i - n)) work after kept
+        → Mending cap false (tailIn xs (i - n)) (headIn xs (i - n)) (weightIn xs (i - n)) ys marks starts active work after
+        → ItemOpened n xs i cap marks ys starts work after kept
+    item-arc o b S M = record {
+      rows = λ old O R.
+          M (netOf n xs marks) (opened-starts O) (opened-sound O cap work small R) (arc-mendable O (i - n) cap work at small R active b)
+          (arc-kept O (i - n) cap work at small R);
+      saves = rw (le-ltb i n arc) S;
+      shut = λ _ q. absurd (true≢false (sym q ∙ o));
+    }
+
+pub item-shut : (n : ℕ) (xs : List ℕ) (i cap : ℕ) (marks ys starts work : List ℕ) → cap < missing → n ≤ i → closedIn marks (headIn xs (i - n)) ≡ true
+    → ItemOpened n xs i cap marks ys starts work work 0
+item-shut n xs i cap marks ys starts work small arc q = record {
+  rows = λ old O R. arc-shut O (i - n) cap work (omega arith) small R q;
+  saves = rw (le-ltb i n arc) (saves-shut cap false (tailIn xs (i - n)) (headIn xs (i - n)) (weightIn xs (i - n)) work (length starts) (λ e. absurd (false≢true e)));
+  shut = λ _ _. refl;
+}

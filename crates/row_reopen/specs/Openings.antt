@@ -1,0 +1,66 @@
+-- What opening an item does to the rows, as the code tells it. A change is a node that is opened, or an arc from u to v of weight w.
+use Prim.Native.Nat.{ℕ, _+_, _*_, _-_, _≤_, _<_}
+use mathlib.Core.Path.{_≡_}
+use mathlib.Core.Logic.{_⊎_}
+use mathlib.Core.Bool.{Bool, true, false}
+use mathlib.Core.List.{List}
+use lib.Bits.{bitOr}
+use lib.Dec.{ltb}
+use lib.ListN.{length, getD, set}
+use Rattle.walks.specs.Graph.{closedIn}
+use Rattle.rows.specs.Bits.{bitOf, alone}
+use Rattle.rows.specs.Net.{Net, netOf, arcCount, tailIn, headIn, weightIn, Proper, Packed}
+use Rattle.rows.specs.Rows.{RowIs, rowAt, Tried, RowsAre}
+use Rattle.row_spread.specs.Active.{Mendable}
+
+-- row i is kept from 3072 on as it was, and nothing but it and its kept copy is touched
+pub record KeptRow (i : ℕ) (work after : List ℕ) : Type 0 where
+  pub kept : (x : ℕ) → x < 64 → getD after (3072 + i * 64 + x) 0 ≡ getD work (i * 64 + x) 0
+  pub other : (j : ℕ) → (j < i * 64) ⊎ (i * 64 + 64 ≤ j) → (j < 3072 + i * 64) ⊎ (3072 + i * 64 + 64 ≤ j) → getD after j 0 ≡ getD work j 0
+
+-- What a change does to row i and to the rows that are kept, one bit each: nothing where it is an arc that cuts no entry; else the row is kept.
+pub data Mends (i cap : ℕ) (node : Bool) (u v w kept : ℕ) (work : List ℕ) : List ℕ → ℕ → Type 0 where
+  left : node ≡ false → Tried cap (rowAt work i) u v w → Mends i cap node u v w kept work work kept
+  mended : {after : List ℕ} → (node ≡ false → Tried cap (rowAt work i) u v w → ⊥) → KeptRow i work after
+      → Mends i cap node u v w kept work after (bitOr kept (alone i))
+
+-- What it does to the first n rows: those that are not kept are as they were, the kept ones are those that it cuts, and for a node all; and nothing but
+-- these and their kept copies is touched.
+pub record Saves (n cap : ℕ) (node : Bool) (u v w : ℕ) (work after : List ℕ) (kept : ℕ) : Type 0 where
+  pub same : (i : ℕ) → i < n → bitOf kept i ≡ 0 → (x : ℕ) → x < 64 → getD after (i * 64 + x) 0 ≡ getD work (i * 64 + x) 0
+  pub copies : (i : ℕ) → i < n → bitOf kept i ≡ 1 → (x : ℕ) → x < 64 → getD after (3072 + i * 64 + x) 0 ≡ getD work (i * 64 + x) 0
+  pub unkept : (i : ℕ) → bitOf kept i ≡ 0 → (x : ℕ) → x < 64 → getD after (3072 + i * 64 + x) 0 ≡ getD work (3072 + i * 64 + x) 0
+  pub beside : (j : ℕ) → n * 64 ≤ j → j < 3072 → getD after j 0 ≡ getD work j 0
+  pub none : (i : ℕ) → n ≤ i → bitOf kept i ≡ 0
+  pub cuts : (i : ℕ) → i < n → bitOf kept i ≡ 1 → node ≡ false → Tried cap (rowAt work i) u v w → ⊥
+  pub nodes : node ≡ true → (i : ℕ) → i < n → bitOf kept i ≡ 1
+
+-- a row of which the arc cuts no entry holds the least lengths as it is
+abbrev pub Kept : Net → ℕ → Bool → ℕ → ℕ → ℕ → List ℕ → List ℕ → Type 0
+Kept N cap node u v w starts work =
+    (i : ℕ) → i < length starts → node ≡ false → Tried cap (rowAt work i) u v w → RowIs N cap (getD starts i 0) (rowAt work i)
+
+-- the marks are those of a graph with item i opened, ys are the arcs that are open then, and the starts are nodes
+pub record Opened (n : ℕ) (xs old : List ℕ) (i : ℕ) (marks ys starts : List ℕ) : Type 0 where
+  pub proper : Proper (netOf n xs old)
+  pub below : i < n + arcCount xs
+  pub opened : marks ≡ set old i 0
+  pub packed : Packed (netOf n xs marks) ys
+  pub nodes : (j : ℕ) → j < length starts → getD starts j 0 < n
+
+-- each row can be mended from the active nodes on
+abbrev pub RowsMendable : ℕ → List ℕ → List ℕ → List ℕ → ℕ → List ℕ → Type 0
+RowsMendable cap ys marks starts active work = (i : ℕ) → i < length starts → Mendable cap ys marks (getD starts i 0) active (rowAt work i)
+
+-- node v is active, and so are the tails of those of the first m arcs that enter it
+pub record Entering (m : ℕ) (ys : List ℕ) (v active : ℕ) : Type 0 where
+  pub own : bitOf active v ≡ 1
+  pub tails : (j : ℕ) → j < m → headIn ys j ≡ v → bitOf active (tailIn ys j) ≡ 1
+
+-- What opening item i does: the rows hold the least lengths for the marks, and the rows that were another before are kept. An arc to a closed node
+-- changes nothing.
+pub record ItemOpened (n : ℕ) (xs : List ℕ) (i cap : ℕ) (marks ys starts work after : List ℕ) (kept : ℕ) : Type 0 where
+  pub rows : (old : List ℕ) → Opened n xs old i marks ys starts → RowsAre (netOf n xs old) cap starts (length starts) work
+      → RowsAre (netOf n xs marks) cap starts (length starts) after
+  pub saves : Saves (length starts) cap (ltb i n) (tailIn xs (i - n)) (headIn xs (i - n)) (weightIn xs (i - n)) work after kept
+  pub shut : n ≤ i → closedIn marks (headIn xs (i - n)) ≡ true → kept ≡ 0

@@ -1,0 +1,152 @@
+// The parts of a sheet in front of the marks (document 01, 'Sheet and slip'): the five numbers and the arcs.
+ghost use mathlib.Core.Path.{_≡_};
+ghost use Prim.Native.Nat.{_*_, _≤_};
+ghost use lib.ListN.{length, drop};
+ghost use Rattle.lists.specs.Lists.{front};
+ghost use Rattle.varint.specs.Varint.{several};
+ghost use Rattle.walks.specs.Flat.{flat};
+ghost use Rattle.sheet.specs.Reader.{headerSource, readHeader, readArc};
+ghost use Rattle.numbers.specs.Answer.{sectionOf};
+ghost use Rattle.numbers.specs.Begun.{begun};
+ghost use Rattle.sheet_parts.specs.Sections.{headerIn, HeaderFits, arcOf};
+use numbers::Section;
+use sheet::Header;
+use sheet_values::Judged;
+
+const NODES_LEAST: u32 = 2;
+
+const NODES_END: u32 = 65;
+
+const ARCS_END: u32 = 513;
+
+const LIMIT_END: u32 = 1000001;
+
+const MINUTES_END: u32 = 65536;
+
+// The five numbers and the position after them, or the refusal.
+pub enum HeaderRead {
+    Five(Header, usize),
+    Fault(u32),
+}
+
+// A number that was judged fine, and the position after it.
+pub struct Field {
+    pub value: u32,
+    pub next: usize,
+}
+
+// Reads source, target and limit, which stand from `at` on.
+fn header_ends(sheet: &[u8], at: usize, nodes: u32, arcs: u32) -> HeaderRead
+    requires { ⌜ (2 ≤ nodes) × (nodes ≤ 64) × (arcs ≤ 512) ⌝ }
+    ensures { λ r. ⌜ headerIn (now (sheet .entry)) r ≡ headerSource nodes arcs (drop at (now (sheet .entry))) ⌝ }
+    ensures { λ r. ⌜ HeaderFits (now (sheet .entry)) r ⌝ }
+{
+    let source = match sheet_values::judged_at(sheet, at, nodes, 7) {
+        Judged::Fine(x, next) => Field {
+            value: x,
+            next: next,
+        },
+        Judged::Wrong(why) => return HeaderRead::Fault(why),
+    };
+    let target = match sheet_values::judged_at(sheet, source.next, nodes, 7) {
+        Judged::Fine(x, next) => Field {
+            value: x,
+            next: next,
+        },
+        Judged::Wrong(why) => return HeaderRead::Fault(why),
+    };
+    if target.value == source.value {
+        return HeaderRead::Fault(7);
+    }
+    match sheet_values::judged_at(sheet, target.next, LIMIT_END, 8) {
+        Judged::Fine(limit, next) => {
+            let header = Header {
+                nodes: nodes as usize,
+                arcs: arcs as usize,
+                source: source.value as usize,
+                target: target.value as usize,
+                limit: limit,
+            };
+            HeaderRead::Five(header, next)
+        }
+        Judged::Wrong(why) => HeaderRead::Fault(why),
+    }
+}
+
+// Reads the five numbers in front.
+pub fn header_of(sheet: &[u8]) -> HeaderRead
+    ensures { λ r. ⌜ headerIn (now (sheet .entry)) r ≡ readHeader (now (sheet .entry)) ⌝ }
+    ensures { λ r. ⌜ HeaderFits (now (sheet .entry)) r ⌝ }
+{
+    let nodes = match sheet_values::judged_at(sheet, 0, NODES_END, 5) {
+        Judged::Fine(x, next) => Field {
+            value: x,
+            next: next,
+        },
+        Judged::Wrong(why) => return HeaderRead::Fault(why),
+    };
+    if nodes.value < NODES_LEAST {
+        return HeaderRead::Fault(5);
+    }
+    match sheet_values::judged_at(sheet, nodes.next, ARCS_END, 6) {
+        Judged::Fine(arcs, next) => header_ends(sheet, next, nodes.value, arcs),
+        Judged::Wrong(why) => HeaderRead::Fault(why),
+    }
+}
+
+// An arc of the sheet: tail, head, minutes and the position after it, or the refusal.
+pub enum ArcRead {
+    Found(u32, u32, u32, usize),
+    Not(u32),
+}
+
+// Reads the arc at `at` of a graph of `nodes` nodes.
+fn arc_at(sheet: &[u8], at: usize, nodes: u32) -> ArcRead
+    ensures { λ r. ⌜ arcOf (now (sheet .entry)) r ≡ readArc nodes (drop at (now (sheet .entry))) ⌝ }
+{
+    match sheet_values::judged_at(sheet, at, nodes, 9) {
+        Judged::Wrong(why) => ArcRead::Not(why),
+        Judged::Fine(tail, after_tail) => match sheet_values::judged_at(
+            sheet,
+            after_tail,
+            nodes,
+            9,
+        ) {
+            Judged::Wrong(why) => ArcRead::Not(why),
+            Judged::Fine(head, after_head) => {
+                if head == tail {
+                    return ArcRead::Not(9);
+                }
+                match sheet_values::judged_at(sheet, after_head, MINUTES_END, 10) {
+                    Judged::Wrong(why) => ArcRead::Not(why),
+                    Judged::Fine(minutes, next) => ArcRead::Found(tail, head, minutes, next),
+                }
+            }
+        },
+    }
+}
+
+// Reads the arcs at the front of `section` and stores tail, head and minutes of each over the front of `arcs`.
+pub fn arcs_in(section: &[u8], nodes: u32, count: usize, arcs: &mut [u32]) -> Section
+    requires { ⌜ 3 * count ≤ length (now arcs) ⌝ }
+    ensures { λ r. ⌜ sectionOf (now (section .entry)) (begun (readArc nodes) count (now (section .entry))) r ≡ several (readArc nodes) count (now (section .entry)) ⌝ }
+    ensures { λ _. ⌜ now (arcs .exit) ≡ front (flat (begun (readArc nodes) count (now (section .entry)))) (now (arcs .entry)) ⌝ }
+{
+    let mut at: usize = 0;
+    let mut j: usize = 0;
+    while j < count {
+        match arc_at(section, at, nodes) {
+            ArcRead::Not(why) => {
+                return Section::Stopped(why);
+            }
+            ArcRead::Found(tail, head, minutes, next) => {
+                arcs[3 * j] = tail;
+                arcs[3 * j + 1] = head;
+                arcs[3 * j + 2] = minutes;
+                at = next;
+            }
+        }
+        j += 1;
+    }
+    Section::Ended(at)
+}

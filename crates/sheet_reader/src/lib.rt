@@ -1,0 +1,75 @@
+// The sheet's reader (document 01, 'Sheet and slip', refusals 3 to 13).
+ghost use mathlib.Core.Path.{_≡_};
+ghost use Prim.Native.Nat.{_+_, _*_, _≤_};
+ghost use lib.ListN.{length, take};
+ghost use lib.Dec.{leb};
+ghost use Rattle.lists.specs.Lists.{front};
+ghost use Rattle.varint.specs.Varint.{after};
+ghost use Rattle.walks.specs.Flat.{flat};
+ghost use Rattle.sheet.specs.Sheet.{required};
+ghost use Rattle.sheet.specs.Reader.{readArcs, complete, taken};
+ghost use Rattle.sheet_required.specs.Held.{sheetOf};
+ghost use Rattle.sheet_reader.specs.Answer.{arcsBehind, marksBehind, answered, arcsBegun, marksBegun};
+use numbers::Section;
+use sheet::Header;
+use sheet_parts::HeaderRead;
+
+const REQUIRED_MOST: usize = 8;
+
+// Whether at most eight nodes are required; the arcs' numbers and the marks stand in front.
+fn few_required(header: Header, arcs: &[u32], marks: &[u8]) -> bool
+    requires { ⌜ (header .nodes ≤ 64) × (header .arcs ≤ 512) × (1536 ≤ length (now arcs)) × (576 ≤ length (now marks)) ⌝ }
+    ensures { λ r. ⌜ r ≡ leb (length (required (sheetOf header (take (3 * header .arcs) (now (arcs .entry))) (take (header .nodes + header .arcs) (now (marks .entry)))))) 8 ⌝ }
+{
+    let numbers = 3 * header.arcs;
+    let items = header.nodes + header.arcs;
+    let mut nodes = [0usize; 64];
+    sheet_required::required_nodes(header, &arcs[..numbers], &marks[..items], &mut nodes)
+        <= REQUIRED_MOST
+}
+
+// A sheet that was taken, by the five numbers in front of it, or the refusal, 3 to 13.
+pub enum SheetRead {
+    Taken(Header),
+    Refused(u32),
+}
+
+// Reads the arcs and the marks of a sheet whose header was read: `section` is the part of the sheet that starts at the fifth number's end.
+fn read_behind(header: Header, section: &[u8], arcs: &mut [u32], marks: &mut [u8]) -> SheetRead
+    requires { ⌜ (header .nodes ≤ 64) × (header .arcs ≤ 512) × (1536 ≤ length (now arcs)) × (576 ≤ length (now marks)) ⌝ }
+    ensures { λ r. ⌜ r ≡ answered (after (readArcs header (now (section .entry))) complete) ⌝ }
+    ensures { λ _. ⌜ now (arcs .exit) ≡ front (flat (arcsBehind header (now (section .entry)))) (now (arcs .entry)) ⌝ }
+    ensures { λ _. ⌜ now (marks .exit) ≡ front (marksBehind header (now (section .entry))) (now (marks .entry)) ⌝ }
+{
+    let nodes = header.nodes;
+    let count = header.arcs;
+    let end = match sheet_parts::arcs_in(section, nodes as u32, count, arcs) {
+        Section::Ended(at) => at,
+        Section::Stopped(why) => return SheetRead::Refused(why),
+    };
+    let last = match sheet_values::marks_in(section, end, nodes + count, marks) {
+        Section::Ended(at) => at,
+        Section::Stopped(why) => return SheetRead::Refused(why),
+    };
+    if last < section.len() {
+        return SheetRead::Refused(12);
+    }
+    if few_required(header, arcs, marks) {
+        return SheetRead::Taken(header);
+    }
+    SheetRead::Refused(13)
+}
+
+// Reads a sheet. The numbers of its arcs, three each, are stored over the front of `arcs`, its marks over the front of `marks`; a refused sheet
+// leaves there what was read before the fault.
+pub fn read(sheet: &[u8], arcs: &mut [u32], marks: &mut [u8]) -> SheetRead
+    requires { ⌜ (1536 ≤ length (now arcs)) × (576 ≤ length (now marks)) ⌝ }
+    ensures { λ r. ⌜ r ≡ answered (taken (now (sheet .entry))) ⌝ }
+    ensures { λ _. ⌜ now (arcs .exit) ≡ front (flat (arcsBegun (now (sheet .entry)))) (now (arcs .entry)) ⌝ }
+    ensures { λ _. ⌜ now (marks .exit) ≡ front (marksBegun (now (sheet .entry))) (now (marks .entry)) ⌝ }
+{
+    match sheet_parts::header_of(sheet) {
+        HeaderRead::Five(header, at) => read_behind(header, &sheet[at..], arcs, marks),
+        HeaderRead::Fault(why) => SheetRead::Refused(why),
+    }
+}

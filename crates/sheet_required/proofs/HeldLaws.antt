@@ -1,0 +1,35 @@
+-- Small laws of a sheet as the code has it, and of lists that are written to the front of an array. Assumes nothing.
+use Prim.Native.Nat.{ℕ, zero, suc, _+_, _<_}
+use mathlib.Core.Path.{_≡_, sym, ap, _∙_}
+use mathlib.Core.List.{List, [], _∷_}
+use native.Mathlib.Omega.{arith}
+use lib.ListN.{length, getD, take, drop}
+use lib.Seq.{take-at, drop-drop}
+use Rattle.lists.proofs.Pigeonhole.{Below}
+use Rattle.lists.specs.Lists.{front}
+use Rattle.walks.specs.Flat.{graphOf}
+use Rattle.walks.specs.Graph.{itemCount}
+use Rattle.walks.proofs.FlatLaws.{arcs-count}
+use Rattle.sheet.specs.declared.Header.{Header}
+use Rattle.sheet_required.specs.Held.{Whole}
+
+-- the items that the header counts
+pub items-are : {h : Header} {arcs marks : List ℕ} → Whole h arcs marks → itemCount (graphOf (h .nodes) arcs) ≡ h .nodes + h .arcs
+items-are {h} {arcs} W = let e = arcs-count arcs in omega (arith, e, W .held .0)
+
+-- an entry of a list of small numbers
+pub goals-at : (n i : ℕ) (xs : List ℕ) → Below n xs → i < length xs → getD xs i 0 < n
+goals-at n i [] b l = absurd (omega arith)
+goals-at n zero (x ∷ xs) b l = b .0
+goals-at n (suc i) (x ∷ xs) b l = goals-at n i xs (b .1) (omega arith)
+
+-- what stands in front is found there
+front-take : (xs d : List ℕ) (n : ℕ) → n ≡ length xs → take n (front xs d) ≡ xs
+front-take xs d n e = take-at xs (drop (length xs) d) n (sym e)
+
+pub listed-front : (xs out d : List ℕ) (n : ℕ) → (n ≡ length xs) × (out ≡ front xs d) → take n out ≡ xs
+listed-front xs out d n e = ap (take n) (e .1) ∙ front-take xs d n (e .0)
+
+-- what is kept behind 3,072 numbers is kept behind 16,384
+pub drop-more : (xs ys : List ℕ) → drop 3072 xs ≡ drop 3072 ys → drop 16384 xs ≡ drop 16384 ys
+drop-more xs ys e = sym (drop-drop 13312 3072 xs) ∙ ap (drop 13312) e ∙ drop-drop 13312 3072 ys

@@ -1,0 +1,25 @@
+-- `mark_ends` sets the marks of both ends of a mandatory arc. Assumes nothing.
+use borrow.Author.Needs.{needs}
+use mathlib.Core.Path.{_∙_}
+use borrow.Author.Tests.{eq-eqb, ne-eqb}
+use Rattle.sheet_required.proofs.mark_ends.Statement.{statement}
+use Rattle.sheet_required.proofs.mark_ends.Tie as tie
+
+mark-end-requires : tie.Need-mark-end-requires
+mark-end-requires c κs = search needs
+
+mark-end-requires-2 : tie.Need-mark-end-requires-2
+mark-end-requires-2 c κs = search needs
+
+same-length : tie.Need-same-length
+same-length c = search needs
+
+returns : tie.Need-returns
+returns c = rw (eq-eqb _ _ (c .before .before .before .before .before .before .before .before .if1 .taken)) (c .before .before .mark-end2 .ensures ∙ rw (c .before .before .before .before .before .before .mark-end .ensures))
+
+returns-2 : tie.Need-returns-2
+returns-2 c = rw (ne-eqb _ _ (c .if1 .left))
+
+pub mark-ends-spec : {M : Type 1} → statement M
+mark-ends-spec =
+    tie.close (tie.spec mark-end-requires mark-end-requires-2 same-length returns returns-2)

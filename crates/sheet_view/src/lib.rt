@@ -1,0 +1,44 @@
+// The arc view, document 01's leg view ('The operations and what they refuse').
+ghost use mathlib.Core.Path.{_≡_};
+ghost use Prim.Native.Nat.{_+_, _*_, _≤_};
+ghost use lib.ListN.{length, drop};
+ghost use Rattle.sheet.specs.ArcView.{past, arcView, placeOf};
+use numbers::Section;
+use sheet_reader::SheetRead;
+
+// How many numbers stand in a sheet's header, and for each arc.
+const HEADER_NUMBERS: usize = 5;
+
+const ARC_NUMBERS: usize = 3;
+
+// The position after `count` numbers that stand from `from` on; the end of the sheet where they cannot be read.
+fn past_numbers(sheet: &[u8], from: usize, count: usize) -> usize
+    requires { ⌜ from ≤ length (now sheet) ⌝ }
+    ensures { λ r. ⌜ (drop r (now (sheet .entry)) ≡ past count (drop from (now (sheet .entry)))) × (r ≤ length (now (sheet .entry))) ⌝ }
+{
+    match numbers::skip_numbers(sheet, from, count) {
+        Section::Ended(next) => next,
+        Section::Stopped(_) => sheet.len(),
+    }
+}
+
+// The part of the sheet that holds the three numbers of the arc; empty, at the sheet's front, where the sheet is refused or has no such arc (document
+// 01: leg view). The contract fixes the place, and so no other part that holds the same bytes will do.
+pub fn arc_view(sheet: &[u8], arc: u32) -> &[u8]
+    ensures { λ r. ⌜ (r .ptr .0 ≡ sheet .entry .ptr .0) × (r .ptr .1 ≡ placeOf (now (sheet .entry)) arc + sheet .entry .ptr .1) ⌝ }
+    ensures { λ r. ⌜ now r ≡ arcView (now (sheet .entry)) arc ⌝ }
+{
+    let mut arcs = [0u32; 1536];
+    let mut marks = [0u8; 576];
+    let header = match sheet_reader::read(sheet, &mut arcs, &mut marks) {
+        SheetRead::Taken(header) => header,
+        SheetRead::Refused(_) => return &sheet[0..0],
+    };
+    let earlier = arc as usize;
+    if header.arcs <= earlier {
+        return &sheet[0..0];
+    }
+    let from = past_numbers(sheet, 0, HEADER_NUMBERS + ARC_NUMBERS * earlier);
+    let to = past_numbers(sheet, from, ARC_NUMBERS);
+    &sheet[from..to]
+}

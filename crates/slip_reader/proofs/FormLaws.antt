@@ -1,0 +1,128 @@
+-- Laws of a slip's parts: its bytes in a row, and what each part that was judged says of the whole. Assumes nothing.
+use Prim.Native.Nat.{ℕ, _+_, _≤_, _<_}
+use mathlib.Core.Path.{_≡_, refl, ap, sym, _∙_}
+use mathlib.Core.List.{List, [], _∷_, _++_, append-assoc}
+use mathlib.Core.Bool.{true}
+use native.Mathlib.Omega.{arith}
+use lib.Dec.{ltb}
+use lib.ListN.{length, drop, drop-of-length-le, length-append}
+use lib.Seq.{drop-cons}
+use borrow.Author.Tests.{ltb-true, lt-ltb, le-leb, lt-leb}
+use Rattle.lists.specs.Lists.{every}
+use Rattle.lists.proofs.Pigeonhole.{Below}
+use Rattle.lists.proofs.TestLaws.{and-true, true-and}
+use Rattle.varint.specs.Varint.{Read, got, refuse, after, readNumber, number, judged, several, writeNumber, writeNumbers}
+use Rattle.varint.specs.Answer.{small}
+use Rattle.varint.proofs.WriteLaws.{numbers-append}
+use Rattle.sheet.specs.Slip.{slipNumbers, slipBytes, marksBytes, readList, slipEnd, slipReasons, slipGoals, as17, readSlip}
+use Rattle.slip_reader.specs.Form.{slipFrom, listBytes, listsOf}
+
+pub marks-parts : (ms : List ℕ) → marksBytes ms ≡ writeNumber 0 ++ writeNumbers ms
+unfolding marksBytes writeNumbers
+marks-parts ms = refl
+
+pub list-parts : (xs : List ℕ) → listBytes xs ≡ writeNumber (length xs) ++ writeNumbers xs
+unfolding listBytes writeNumbers
+list-parts xs = refl
+
+pub slip-parts : (v : ℕ) (gs rs : List ℕ) → slipBytes (slipFrom v gs rs) ≡ (writeNumber v ++ listBytes gs) ++ listBytes rs
+unfolding slipBytes slipNumbers listBytes writeNumbers
+slip-parts v gs rs =
+    ap (λ (bs : List ℕ). writeNumber v ++ bs) (numbers-append (length gs ∷ gs) (length rs ∷ rs))
+    ∙ sym (append-assoc (writeNumber v) (writeNumbers (length gs ∷ gs)) (writeNumbers (length rs ∷ rs)))
+
+pub small-cons : (x : ℕ) (xs : List ℕ) → small (x ∷ xs) ≡ true → (x < 268435456) × (small xs ≡ true)
+unfolding small every
+small-cons x xs e = let w = and-true (ltb x 268435456) _ e in (ltb-true x 268435456 (w .0), w .1)
+
+small-append : (xs ys : List ℕ) → small (xs ++ ys) ≡ true → (small xs ≡ true) × (small ys ≡ true)
+unfolding small every
+small-append [] ys e = (refl, e)
+small-append (x ∷ xs) ys e =
+    let w = and-true (ltb x 268435456) _ e in
+    let r = small-append xs ys (w .1) in
+    (true-and (w .0) (r .0), r .1)
+
+-- the numbers of a slip are small, each of its parts by itself
+pub small-parts :
+    (v : ℕ) (gs rs : List ℕ) → small (slipNumbers (slipFrom v gs rs)) ≡ true
+    → (v < 268435456) × (small (length gs ∷ gs) ≡ true) × (small (length rs ∷ rs) ≡ true)
+unfolding slipNumbers
+small-parts v gs rs e =
+    let w = small-cons v _ e in
+    let r = small-append (length gs ∷ gs) (length rs ∷ rs) (w .1) in
+    (w .0, r .0, r .1)
+
+-- room for three parts is room for one and for two
+pub first-part : (a b c : List ℕ) {n : ℕ} → length ((a ++ b) ++ c) ≤ n → length a ≤ n
+first-part a b c h = omega (arith, simp length-append at h)
+
+pub two-parts : (a b c : List ℕ) {n : ℕ} → length ((a ++ b) ++ c) ≤ n → length (a ++ b) ≤ n
+two-parts a b c h = omega (arith, length-append (a ++ b) c)
+
+module _ (bs : List ℕ) where
+  pub count-not : {e : ℕ} → refuse e ≡ readNumber bs → refuse e ≡ readList bs
+  unfolding readList after
+  count-not q = rw (← q)
+
+  pub count-read : {k : ℕ} {rest : List ℕ} {r : Read (List ℕ)} → got k rest ≡ readNumber bs → r ≡ several readNumber k rest → r ≡ readList bs
+  unfolding readList after
+  count-read q e = rw (← q) e
+
+  module _ (v : ℕ) where
+    pub goals-not : {e : ℕ} → refuse e ≡ readList bs → refuse 17 ≡ listsOf v bs
+    unfolding listsOf as17 slipGoals after
+    goals-not q = rw (← q)
+
+    module _ {gs rest : List ℕ} (qg : got gs rest ≡ readList bs) where
+      pub reasons-not : {e : ℕ} → refuse e ≡ readList rest → refuse 17 ≡ listsOf v bs
+      unfolding listsOf as17 slipGoals slipReasons after
+      reasons-not q = rw (← qg, ← q)
+
+      module _ {rs : List ℕ} (s : List ℕ) (at : ℕ) (qr : got rs (drop at s) ≡ readList rest) where
+        pub bytes-left : at < length s → refuse 17 ≡ listsOf v bs
+        unfolding listsOf as17 slipGoals slipReasons slipEnd after
+        bytes-left l = rw (← qg, ← qr, drop-cons s at 0 l)
+
+        pub lists-read : length s ≤ at → got (slipFrom v gs rs) [] ≡ listsOf v bs
+        unfolding listsOf as17 slipGoals slipReasons slipEnd after
+        lists-read l = rw (← qg, ← qr, drop-of-length-le s l)
+
+  pub first-not : {e : ℕ} → refuse e ≡ readNumber bs → refuse 17 ≡ readSlip bs
+  unfolding readSlip as17 number after
+  first-not q = rw (← q)
+
+  module _ {v : ℕ} {rest : List ℕ} (q : got v rest ≡ readNumber bs) where
+    pub first-low : v < 1 → refuse 17 ≡ readSlip bs
+    unfolding readSlip as17 number judged after
+    first-low l = rw (← q) (simp (lt-leb 1 v l))
+
+    pub first-high : 1 ≤ v → 4 < v → refuse 17 ≡ readSlip bs
+    unfolding readSlip as17 number judged after
+    first-high m l = rw (← q) (simp (le-leb 1 v m, lt-leb v 4 l))
+
+    pub first-read : 1 ≤ v → v ≤ 4 → listsOf v rest ≡ readSlip bs
+    unfolding readSlip listsOf number judged after
+    first-read m l = rw (← q) (simp (le-leb 1 v m, le-leb v 4 l))
+
+-- numbers below a bound that is small enough are small
+pub small-below : (n : ℕ) (xs : List ℕ) → n ≤ 268435456 → Below n xs → small xs ≡ true
+unfolding small every
+small-below n [] l b = refl
+small-below n (x ∷ xs) l b = true-and (lt-ltb x 268435456 (omega (arith, b .0))) (small-below n xs l (b .1))
+
+small-both : (xs ys : List ℕ) → small xs ≡ true → small ys ≡ true → small (xs ++ ys) ≡ true
+unfolding small every
+small-both [] ys e f = f
+small-both (x ∷ xs) ys e f = let w = and-true (ltb x 268435456) _ e in true-and (w .0) (small-both xs ys (w .1) f)
+
+small-with : (x : ℕ) (xs : List ℕ) → x < 268435456 → small xs ≡ true → small (x ∷ xs) ≡ true
+unfolding small every
+small-with x xs h e = true-and (lt-ltb x 268435456 h) e
+
+-- and so a slip has a written form
+pub small-slip :
+    (v : ℕ) (gs rs : List ℕ) → v < 268435456 → length gs < 268435456 → small gs ≡ true → length rs < 268435456 → small rs ≡ true
+    → small (slipNumbers (slipFrom v gs rs)) ≡ true
+unfolding slipNumbers
+small-slip v gs rs a b c d e = small-with v _ a (small-both (length gs ∷ gs) (length rs ∷ rs) (small-with (length gs) gs b c) (small-with (length rs) rs d e))

@@ -1,0 +1,201 @@
+-- Laws of lines: a number's digits by its last one, and rows and words as they grow. Assumes nothing.
+use Prim.Native.Nat.{ℕ, zero, suc, _+_, _-_, _*_, _/_, _%_, _≤_, _<_}
+use mathlib.Core.Path.{_≡_, refl, ap, sym, _∙_}
+use mathlib.Core.List.{List, [], _∷_, _++_, append-assoc, append-nil}
+use mathlib.Core.Bool.{Bool, true, false}
+use native.Mathlib.Omega.{arith}
+use native.Mathlib.Numerals.{add-one}
+use lib.Dec.{ltb}
+use borrow.Author.Tests.{lt-ltb, le-ltb, ltb-true, ltb-false}
+use lib.ListN.{length, getD, set, take, drop, length-append, length-take, length-set}
+use lib.Seq.{take-nil, take-suc, take-all}
+use Rattle.lists.specs.Lists.{pick, front}
+use Rattle.lists.proofs.FrontLaws.{length-front, push-at, part-front, Put, put}
+use Rattle.text_lines.specs.Lines.{digits, decimal, spaced, row, line}
+
+digits-few : (k n : ℕ) → n < 10 → digits k n ≡ (48 + n) ∷ []
+unfolding digits
+digits-few zero n h = refl
+digits-few (suc k) n h = rw (lt-ltb n 10 h)
+
+digits-more : (k n : ℕ) → 10 ≤ n → digits (suc k) n ≡ digits k (n / 10) ++ ((48 + n % 10) ∷ [])
+unfolding digits
+digits-more k n h = rw (le-ltb n 10 h)
+
+-- one more than the greatest number of k + 1 digits
+abbrev tens : ℕ → ℕ
+tens zero = 10
+tens (suc k) = 10 * tens k
+
+-- room for one digit more changes nothing
+digits-same : (k n : ℕ) → n < tens k → digits k n ≡ digits (suc k) n
+digits-same zero n h = digits-few zero n h ∙ sym (digits-few 1 n h)
+digits-same (suc k) n h = go (digits-same k (n / 10) (omega arith)) (ltb n 10) refl
+  where
+    go : digits k (n / 10) ≡ digits (suc k) (n / 10) → (t : Bool) → ltb n 10 ≡ t → digits (suc k) n ≡ digits (suc (suc k)) n
+    go less true e = digits-few (suc k) n (ltb-true n 10 e) ∙ sym (digits-few (suc (suc k)) n (ltb-true n 10 e))
+    go less false e =
+        let l : 10 ≤ n = ltb-false n 10 e in
+        digits-more k n l ∙ ap (λ (ds : List ℕ). ds ++ ((48 + n % 10) ∷ [])) less ∙ sym (digits-more (suc k) n l)
+
+-- a number of one digit
+decimal-digit : (n : ℕ) → n < 10 → decimal n ≡ (48 + n) ∷ []
+unfolding decimal
+decimal-digit n h = digits-few 9 n h
+
+module _ (n : ℕ) (d : List ℕ) (few : n < 10) (fits : length (decimal n) ≤ length d) where
+  pub digit-room : 0 < length d
+  digit-room = omega (arith, ap length (decimal-digit n few))
+
+  pub digit-put : (1 ≡ length (decimal n)) × (set d 0 (48 + n) ≡ front (decimal n) d)
+  digit-put = (sym (ap length (decimal-digit n few)), rw (decimal-digit n few) (push-at [] d d 0 (48 + n) refl refl digit-room))
+
+-- a number of more digits: those of its tenth part, and the last
+decimal-last : (n : ℕ) → 10 ≤ n → n < 4294967296 → decimal n ≡ decimal (n / 10) ++ ((48 + n % 10) ∷ [])
+unfolding decimal
+decimal-last n l h = digits-more 8 n l ∙ ap (λ (ds : List ℕ). ds ++ ((48 + n % 10) ∷ [])) (digits-same 8 (n / 10) (omega arith))
+
+module _ (n : ℕ) (d : List ℕ) (many : 10 ≤ n) (wide : n < 4294967296) (fits : length (decimal n) ≤ length d) where
+  pub last-room : length (decimal (n / 10)) < length d
+  last-room = omega (arith, ap length (decimal-last n many wide) ∙ length-append (decimal (n / 10)) ((48 + n % 10) ∷ []))
+
+  pub last-put : (out : List ℕ) (at : ℕ) → at ≡ length (decimal (n / 10)) → out ≡ front (decimal (n / 10)) d
+      → (at + 1 ≡ length (decimal n)) × (set out at (48 + n % 10) ≡ front (decimal n) d)
+  last-put out at a e = (
+    rw (decimal-last n many wide, length-append) (omega (arith, a)),
+    rw (decimal-last n many wide) (push-at (decimal (n / 10)) d out at (48 + n % 10) e (sym a) (omega (arith, last-room, a))),
+  )
+
+-- a space stands in front, and the digits go behind it
+module _ (n : ℕ) (d : List ℕ) (fits : length (spaced n) ≤ length d) where
+  pub space-room : length (decimal n) < length d
+  unfolding spaced
+  space-room = omega arith
+
+  pub space-put : Put (32 ∷ []) d (set d 0 32) 1
+  space-put = put (32 ∷ []) d refl (push-at [] d d 0 32 refl refl (omega (arith, space-room)))
+
+  pub space-fits : length ((32 ∷ []) ++ decimal n) ≤ length d
+  unfolding spaced
+  space-fits = fits
+
+  pub space-done : {out : List ℕ} {at : ℕ} → Put ((32 ∷ []) ++ decimal n) d out at → (at ≡ length (spaced n)) × (out ≡ front (spaced n) d)
+  unfolding spaced
+  space-done w = (w .at-end, w .holds)
+
+-- the first i bytes of a word were written over the front of d
+pub record Copied (word d out : List ℕ) (i : ℕ) : Type 0 where
+  pub few : i ≤ length word
+  pub holds : out ≡ front (take i word) d
+
+module _ {word d out : List ℕ} {i : ℕ} (w : Copied word d out i) (fits : length word ≤ length d) where
+  taken-length : length (take i word) ≡ i
+  taken-length = simp length-take (omega (arith, w .few))
+
+  pub copied-kept : length out ≡ length d
+  copied-kept = ap length (w .holds) ∙ length-front (take i word) d (omega (arith, taken-length, w .few))
+
+  pub copied-more : i < length word → Copied word d (set out i (getD word i 0)) (i + 1)
+  copied-more h =
+      record {
+        few = omega arith;
+        holds = rw (add-one i, take-suc word i 0 h) (push-at (take i word) d out i (getD word i 0) (w .holds) taken-length (omega arith));
+      }
+
+  pub copied-done : length word ≤ i → (i ≡ length word) × (out ≡ front word d)
+  copied-done h = (omega (arith, w .few), w .holds ∙ ap (λ (xs : List ℕ). front xs d) (take-all i word h))
+
+row-append : (xs ys : List ℕ) → row (xs ++ ys) ≡ row xs ++ row ys
+unfolding row
+row-append [] ys = refl
+row-append (x ∷ xs) ys = rw (row-append xs ys) (sym (append-assoc (spaced x) (row xs) (row ys)))
+
+row-one : (x : ℕ) → row (x ∷ []) ≡ spaced x
+unfolding row
+row-one x = append-nil (spaced x)
+
+row-mono : (l : List ℕ) (j : ℕ) → length (row (take j l)) ≤ length (row l)
+unfolding row
+row-mono [] j = rw take-nil (omega arith)
+row-mono (x ∷ l) zero = omega arith
+row-mono (x ∷ l) (suc j) = let q = row-mono l j in simp length-append (omega arith)
+
+row-next : (l : List ℕ) (j : ℕ) → j < length l → row (take (j + 1) l) ≡ row (take j l) ++ spaced (getD l j 0)
+row-next l j h =
+    rw (add-one j, take-suc l j 0 h) (row-append (take j l) (getD l j 0 ∷ []) ∙ ap (λ (ys : List ℕ). row (take j l) ++ ys) (row-one (getD l j 0)))
+
+-- the first j numbers of l were written over the front of d, up to `at`
+pub record Row (l d out : List ℕ) (at j : ℕ) : Type 0 where
+  pub few : j ≤ length l
+  pub at-end : at ≡ length (row (take j l))
+  pub holds : out ≡ front (row (take j l)) d
+
+pub begun : (l d : List ℕ) → Row l d d 0 0
+unfolding row
+begun l d = record { few = omega arith; at-end = refl; holds = refl }
+
+module _ {l d out : List ℕ} {at j : ℕ} (w : Row l d out at j) (fits : length (row l) ≤ length d) where
+  pub row-kept : length out ≡ length d
+  row-kept = ap length (w .holds) ∙ length-front (row (take j l)) d (omega (arith, row-mono l j))
+
+  pub row-room : j < length l → at + length (spaced (getD l j 0)) ≤ length d
+  row-room h = omega (arith, row-mono l (j + 1), simp length-append at (ap length (row-next l j h)), w .at-end)
+
+  pub row-more :
+      (ys : List ℕ) (k : ℕ) → j < length l → k ≡ length (spaced (getD l j 0))
+      → ys ≡ front (spaced (getD l j 0)) (take (length out - at) (drop at out))
+      → Row l d (take at out ++ (ys ++ drop (length out - at) (drop at out))) (at + k) (j + 1)
+  row-more ys k h e y =
+      record {
+        few = omega arith;
+        at-end = rw (row-next l j h, length-append) (omega (arith, w .at-end));
+        holds =
+            rw (row-next l j h)
+            (part-front (row (take j l)) (spaced (getD l j 0)) d out at ys (w .at-end) (w .holds) (omega (arith, row-mono l j)) y);
+      }
+
+  pub row-done : length l ≤ j → (at ≡ length (row l)) × (out ≡ front (row l) d)
+  row-done h =
+      let e : take j l ≡ l = take-all j l (omega arith) in
+      (w .at-end ∙ ap (λ (ys : List ℕ). length (row ys)) e, w .holds ∙ ap (λ (ys : List ℕ). front (row ys) d) e)
+
+-- the word and the numbers behind it stand in front, and the line's end goes behind them
+module _ (word xs d : List ℕ) (fits : length (line word xs) ≤ length d) where
+  pub line-room : length (word ++ row xs) < length d
+  unfolding line
+  line-room = omega (arith, simp length-append at fits, length-append word (row xs))
+
+  pub line-fits : length (word ++ row xs) ≤ length d
+  line-fits = omega (arith, line-room)
+
+  pub written-within : {out : List ℕ} {at : ℕ} → Put (word ++ row xs) d out at → at < length out
+  written-within w = omega (arith, line-room, w .at-end, ap length (w .holds) ∙ length-front (word ++ row xs) d line-fits)
+
+  pub line-kept : {out : List ℕ} {at : ℕ} (x : ℕ) → Put (word ++ row xs) d out at → length (set out at x) ≡ length d
+  line-kept {out} {at} x w = length-set out at x ∙ ap length (w .holds) ∙ length-front (word ++ row xs) d line-fits
+
+  pub line-done : (out : List ℕ) (at : ℕ) → Put (word ++ row xs) d out at → (at + 1 ≡ length (line word xs)) × (set out at 10 ≡ front (line word xs) d)
+  unfolding line
+  line-done out at w = (
+    rw (length-append (word ++ row xs) (10 ∷ [])) (omega (arith, w .at-end)),
+    push-at (word ++ row xs) d out at 10 (w .holds) (sym (w .at-end)) (omega (arith, line-room, w .at-end)),
+  )
+
+-- ten digits at most, and so eleven bytes for each number
+digits-size : (k n : ℕ) → length (digits k n) ≤ suc k
+unfolding digits
+digits-size zero n = omega arith
+digits-size (suc k) n = go (digits-size k (n / 10)) (ltb n 10)
+  where
+    go : length (digits k (n / 10)) ≤ suc k → (t : Bool) → length (pick t ((48 + n) ∷ []) (digits k (n / 10) ++ ((48 + n % 10) ∷ []))) ≤ suc (suc k)
+    go h true = omega arith
+    go h false = simp length-append (omega arith)
+
+row-size : (xs : List ℕ) → length (row xs) ≤ 11 * length xs
+unfolding row spaced decimal
+row-size [] = omega arith
+row-size (x ∷ xs) = let q = row-size xs in let d = digits-size 9 x in simp length-append (omega arith)
+
+pub line-size : (word xs : List ℕ) → length (line word xs) ≤ length word + 11 * length xs + 1
+unfolding line
+line-size word xs = simp length-append (omega (arith, row-size xs))

@@ -1,1 +1,0 @@
-// What check answers: definitions and laws. The code is in the crates `claim` and `checker`.
