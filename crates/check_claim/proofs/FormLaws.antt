@@ -21,7 +21,7 @@ use Rattle.sheet_required.specs.Held.{sheetOf, Whole}
 use Rattle.slip_reader.specs.Form.{slipFrom}
 use Rattle.sheet_required.proofs.HeldLaws.{items-are}
 use Rattle.check_rules.specs.Check.{goalCount, wellFormed}
-use Rattle.check_claim.specs.Claim.{Asked}
+use Rattle.check_claim.specs.Claim.{Claimed}
 use Rattle.check_claim.proofs.ClosingLaws.{entry-member}
 
 pub and-assoc : (a b c : Bool) → ((a && b) && c) ≡ (a && (b && c))
@@ -98,7 +98,7 @@ many-reasons S first goals reasons h =
 
 -- a slip that is well formed for a whole sheet can be asked for a least length
 pub formed-asked : {h : Header} {arcs marks : List ℕ} (first : ℕ) (goals reasons : List ℕ) → Whole h arcs marks
-    → wellFormed (sheetOf h arcs marks) (slipFrom first goals reasons) ≡ true → Asked h arcs goals reasons
+    → wellFormed (sheetOf h arcs marks) (slipFrom first goals reasons) ≡ true → Claimed h arcs goals reasons
 formed-asked {h} {arcs} {marks} first goals reasons W w = record {
   proper = λ ms l. record { few = W .proper .few; marked = omega (arith, W .held .0, W .few, W .proper .few); tails = W .proper .tails; heads = W .proper .heads };
   few = omega (arith, W .held .0, W .few);

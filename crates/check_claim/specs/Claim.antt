@@ -16,7 +16,7 @@ pub record Closing (reasons marks : List ℕ) : Type 0 where
   pub each : (j : ℕ) → closedIn marks j ≡ member j reasons
 
 -- a graph with source, target and limit, goals, and reasons, for which a least length can be asked
-pub record Asked (h : Header) (arcs goals reasons : List ℕ) : Type 0 where
+pub record Claimed (h : Header) (arcs goals reasons : List ℕ) : Type 0 where
   pub proper : (marks : List ℕ) → length marks ≡ 576 → Proper (netOf (h .nodes) arcs marks)
   pub few : length arcs ≤ 1536
   pub ends : (h .source < h .nodes) × (h .target < h .nodes)

@@ -12,7 +12,7 @@ ghost use Rattle.sheet.specs.Sheet.{Sheet, isForbidden, required};
 ghost use Rattle.sheet_required.specs.Held.{sheetOf, Whole};
 ghost use Rattle.slip_reader.specs.Form.{slipFrom};
 ghost use Rattle.check_rules.specs.Check.{goalCount, wellFormed, isGoal};
-ghost use Rattle.check_claim.specs.Claim.{Closing, Asked};
+ghost use Rattle.check_claim.specs.Claim.{Closing, Claimed};
 use lengths::Query;
 use sheet::Header;
 
@@ -213,7 +213,7 @@ pub fn fits_goals(
     reasons: &[usize],
     work: &mut [u32],
 ) -> bool
-    requires { ⌜ Asked header (now arcs) (now goals) (now reasons) × (16384 ≤ length (now work)) ⌝ }
+    requires { ⌜ Claimed header (now arcs) (now goals) (now reasons) × (16384 ≤ length (now work)) ⌝ }
     ensures { λ r. ⌜ r ≡ fits (graphOf (header .nodes) (now (arcs .entry))) (header .source) (header .target) (header .limit) (λ j. member j (now (reasons .entry))) (now (goals .entry)) ⌝ }
     ensures { λ _. ⌜ drop 16384 (now (work .exit)) ≡ drop 16384 (now (work .entry)) ⌝ }
 {

@@ -42,15 +42,15 @@ unfoldable pub checkOn : List ℕ → List ℕ → Read Bool
 checkOn sheet slip = after (accepted sheet) (λ S rest. after (readSlip slip) (judgedOn S))
 
 -- What a call gives and leaves: the refusal number, 0 where it finished; yes or no; what the work holds. The slip is only read.
-pub record Outcome : Type 0 where
+pub record CheckOutcome : Type 0 where
   pub number : ℕ
   pub yes : Bool
   pub work : List ℕ
 
-unfoldable pub outcome : Read Bool → List ℕ → Outcome
-outcome (got answer rest) work = record { number = 0; yes = answer; work = zeroed work }
-outcome (refuse e) work = record { number = e; yes = false; work = workAfter e work }
+unfoldable pub checkOutcome : Read Bool → List ℕ → CheckOutcome
+checkOutcome (got answer rest) work = record { number = 0; yes = answer; work = zeroed work }
+checkOutcome (refuse e) work = record { number = e; yes = false; work = workAfter e work }
 
 -- check, for every sheet, work and slip; 1: work under 16,384 numbers
-unfoldable pub checked : List ℕ → List ℕ → List ℕ → Outcome
-checked sheet work slip = outcome (pick (ltb (length work) workNumbers) (refuse 1) (checkOn sheet slip)) work
+unfoldable pub checked : List ℕ → List ℕ → List ℕ → CheckOutcome
+checked sheet work slip = checkOutcome (pick (ltb (length work) workNumbers) (refuse 1) (checkOn sheet slip)) work

@@ -11,23 +11,23 @@ use Rattle.sheet.specs.Slip.{Slip}
 use Rattle.slip_reader.specs.Form.{slipFrom}
 use Rattle.check_claim.proofs.FormLaws.{and-assoc}
 use Rattle.check_rules.specs.Check.{wellFormed, isGoal, holds, judgedOn}
-use Rattle.check_answer.specs.declared.Answer.{Answer}
-use Rattle.check_answer.specs.Answer.{answerOf}
+use Rattle.check_answer.specs.declared.CheckAnswer.{CheckAnswer}
+use Rattle.check_answer.specs.Answer.{checkAnswerOf}
 
 module _ (S : Sheet) (s : Slip) where
   -- 18 where the slip is not well formed
-  pub answer-formed : wellFormed S s ≡ false → answerOf (refuse 18) ≡ answerOf (judgedOn S s [])
+  pub answer-formed : wellFormed S s ≡ false → checkAnswerOf (refuse 18) ≡ checkAnswerOf (judgedOn S s [])
   unfolding judgedOn
   answer-formed e = rw e
 
   -- yes where the reasons and the goals are of their kinds and no walk fits; no otherwise
   pub answer-judged : (k f answer : Bool) → wellFormed S s ≡ true → k ≡ (every (isForbidden S) (s .reasons) && every (isGoal S (s .first)) (s .goals))
       → f ≡ fits (S .graph) (S .source) (S .target) (S .limit) (λ j. member j (s .reasons)) (s .goals) → answer ≡ (k && not f)
-      → answerOf (got answer []) ≡ answerOf (judgedOn S s [])
+      → checkAnswerOf (got answer []) ≡ checkAnswerOf (judgedOn S s [])
   unfolding judgedOn holds
   answer-judged k f answer w p q e = rw (w, ← q, e, p, and-assoc)
 
 -- the answer speaks of the lists as the slip has them
-pub of-lists : (S : Sheet) (v : ℕ) {xs ys goals reasons : List ℕ} {a : Answer} → xs ≡ goals → ys ≡ reasons → a ≡ answerOf (judgedOn S (slipFrom v xs ys) [])
-    → a ≡ answerOf (judgedOn S (slipFrom v goals reasons) [])
-of-lists S v p q e = e ∙ ap₂ (λ (gs rs : List ℕ). answerOf (judgedOn S (slipFrom v gs rs) [])) p q
+pub of-lists : (S : Sheet) (v : ℕ) {xs ys goals reasons : List ℕ} {a : CheckAnswer} → xs ≡ goals → ys ≡ reasons → a ≡ checkAnswerOf (judgedOn S (slipFrom v xs ys) [])
+    → a ≡ checkAnswerOf (judgedOn S (slipFrom v goals reasons) [])
+of-lists S v p q e = e ∙ ap₂ (λ (gs rs : List ℕ). checkAnswerOf (judgedOn S (slipFrom v gs rs) [])) p q

@@ -8,11 +8,11 @@ ghost use Rattle.sheet.specs.Slip.{readSlip};
 ghost use Rattle.sheet.specs.Lent.{zeroed};
 ghost use Rattle.sheet_required.specs.Held.{sheetOf, Whole};
 ghost use Rattle.slip_reader.specs.Form.{SlipCounts};
-ghost use Rattle.slip_reader.specs.declared.SlipRead.the-variants.{Formed};
+ghost use Rattle.slip_reader.specs.declared.SlipRead.the-variants.{Got};
 ghost use Rattle.check_rules.specs.Check.{judgedOn, checked};
-ghost use Rattle.check_answer.specs.Answer.{answerOf};
+ghost use Rattle.check_answer.specs.Answer.{checkAnswerOf};
 ghost use Rattle.checker.specs.Written.{formOf};
-use check_answer::Answer;
+use check_answer::CheckAnswer;
 use sheet::Header;
 use sheet_reader::SheetRead;
 use slip_reader::SlipForm;
@@ -24,17 +24,17 @@ const WORK_NUMBERS: usize = 16384;
 const GOALS: usize = 8;
 
 // Judges the goals and the reasons of a slip: 18, or yes or no.
-fn judge_lists(
+fn answer_lists(
     header: Header,
     arcs: &[u32],
     marks: &[u8],
     slip: &[u8],
     form: SlipForm,
     work: &mut [u32],
-) -> Answer
-    requires { ⌜ Whole header (now arcs) (now marks) × (16384 ≤ length (now work)) × SlipCounts (now slip) (Formed form) ⌝ }
+) -> CheckAnswer
+    requires { ⌜ Whole header (now arcs) (now marks) × (16384 ≤ length (now work)) × SlipCounts (now slip) (Got form) ⌝ }
     requires { ⌜ (form .goals ≤ 8) × (form .reasons ≤ header .nodes + header .arcs) ⌝ }
-    ensures { λ r. ⌜ r ≡ answerOf (judgedOn (sheetOf header (now (arcs .entry)) (now (marks .entry))) (formOf (now (slip .entry)) form) []) ⌝ }
+    ensures { λ r. ⌜ r ≡ checkAnswerOf (judgedOn (sheetOf header (now (arcs .entry)) (now (marks .entry))) (formOf (now (slip .entry)) form) []) ⌝ }
     ensures { λ _. ⌜ drop 16384 (now (work .exit)) ≡ drop 16384 (now (work .entry)) ⌝ }
 {
     let first = form.first;
@@ -56,16 +56,16 @@ fn judge_lists(
 }
 
 // Judges a slip that is well written: 18, or yes or no. A list that is longer than any that is well formed is not read.
-fn judge_form(
+fn answer_form(
     header: Header,
     arcs: &[u32],
     marks: &[u8],
     slip: &[u8],
     form: SlipForm,
     work: &mut [u32],
-) -> Answer
-    requires { ⌜ Whole header (now arcs) (now marks) × (16384 ≤ length (now work)) × SlipCounts (now slip) (Formed form) ⌝ }
-    ensures { λ r. ⌜ r ≡ answerOf (judgedOn (sheetOf header (now (arcs .entry)) (now (marks .entry))) (formOf (now (slip .entry)) form) []) ⌝ }
+) -> CheckAnswer
+    requires { ⌜ Whole header (now arcs) (now marks) × (16384 ≤ length (now work)) × SlipCounts (now slip) (Got form) ⌝ }
+    ensures { λ r. ⌜ r ≡ checkAnswerOf (judgedOn (sheetOf header (now (arcs .entry)) (now (marks .entry))) (formOf (now (slip .entry)) form) []) ⌝ }
     ensures { λ _. ⌜ drop 16384 (now (work .exit)) ≡ drop 16384 (now (work .entry)) ⌝ }
 {
     if form.goals as usize > GOALS {
@@ -74,23 +74,29 @@ fn judge_form(
     if form.reasons as usize > header.nodes + header.arcs {
         return check_answer::refused(18);
     }
-    judge_lists(header, arcs, marks, slip, form, work)
+    answer_lists(header, arcs, marks, slip, form, work)
 }
 
 // Judges a slip against a sheet that was taken: 17, 18, or yes or no.
-fn judge(header: Header, arcs: &[u32], marks: &[u8], slip: &[u8], work: &mut [u32]) -> Answer
+fn answer_slip(
+    header: Header,
+    arcs: &[u32],
+    marks: &[u8],
+    slip: &[u8],
+    work: &mut [u32],
+) -> CheckAnswer
     requires { ⌜ Whole header (now arcs) (now marks) × (16384 ≤ length (now work)) ⌝ }
-    ensures { λ r. ⌜ r ≡ answerOf (after (readSlip (now (slip .entry))) (judgedOn (sheetOf header (now (arcs .entry)) (now (marks .entry))))) ⌝ }
+    ensures { λ r. ⌜ r ≡ checkAnswerOf (after (readSlip (now (slip .entry))) (judgedOn (sheetOf header (now (arcs .entry)) (now (marks .entry))))) ⌝ }
     ensures { λ _. ⌜ drop 16384 (now (work .exit)) ≡ drop 16384 (now (work .entry)) ⌝ }
 {
     match slip_reader::judge_slip(slip) {
-        SlipRead::Formed(form) => judge_form(header, arcs, marks, slip, form, work),
-        SlipRead::Unformed => check_answer::refused(17),
+        SlipRead::Got(form) => answer_form(header, arcs, marks, slip, form, work),
+        SlipRead::Refused => check_answer::refused(17),
     }
 }
 
 // Ends a call that got as far as the slip: the work's numbers are zero.
-fn ended(answer: Answer, work: &mut [u32]) -> Answer
+fn ended(answer: CheckAnswer, work: &mut [u32]) -> CheckAnswer
     requires { ⌜ 16384 ≤ length (now work) ⌝ }
     ensures { λ r. ⌜ (r ≡ answer) × (now (work .exit) ≡ zeroed (now (work .entry))) ⌝ }
 {
@@ -99,7 +105,7 @@ fn ended(answer: Answer, work: &mut [u32]) -> Answer
 }
 
 // Check: 1 and 3 to 14 for the work and the sheet, then 17 and 18 for the slip; yes or no. No sheet draws 14 (law `accepted-taken`).
-pub fn check(sheet: &[u8], work: &mut [u32], slip: &[u8]) -> Answer
+pub fn check(sheet: &[u8], work: &mut [u32], slip: &[u8]) -> CheckAnswer
     ensures { λ r. ⌜ record { number = r .number; yes = r .yes; work = now (work .exit) } ≡ checked (now (sheet .entry)) (now (work .entry)) (now (slip .entry)) ⌝ }
 {
     if work.len() < WORK_NUMBERS {
@@ -108,11 +114,11 @@ pub fn check(sheet: &[u8], work: &mut [u32], slip: &[u8]) -> Answer
     let mut arcs = [0u32; 1536];
     let mut marks = [0u8; 576];
     let header = match sheet_reader::read(sheet, &mut arcs, &mut marks) {
-        SheetRead::Taken(header) => header,
+        SheetRead::Got(header) => header,
         SheetRead::Refused(why) => return check_answer::refused(why),
     };
     let numbers = 3 * header.arcs;
     let items = header.nodes + header.arcs;
-    let answer = judge(header, &arcs[..numbers], &marks[..items], slip, work);
+    let answer = answer_slip(header, &arcs[..numbers], &marks[..items], slip, work);
     ended(answer, work)
 }

@@ -19,8 +19,8 @@ use Rattle.walks.specs.Graph.{least}
 use Rattle.walks.specs.Lengths.{Least, none, some, plus, lesser}
 use Rattle.goal_table.proofs.RestLaws.{Rest, Next, rest-done, members-further}
 use Rattle.goal_table.proofs.SetLaws.{has-below, but-less, but-none, any-skips, last-in}
-use Rattle.goal_table.specs.Sets.{has, chosen, given, past, anyIn}
-use Rattle.goal_table.specs.Table.{Filled, FilledTo, Asked, TableFits, SetFits, TableOnly}
+use Rattle.goal_table.specs.Sets.{has, chosen, given, justPast, anyIn}
+use Rattle.goal_table.specs.Table.{Filled, FilledTo, SetAsked, TableFits, SetFits, TableOnly}
 
 -- an entry of a front that is as it was
 pub same-front : (n : ℕ) (u v : List ℕ) → take n v ≡ take n u → (k : ℕ) → k < n → getD v k 0 ≡ getD u k 0
@@ -30,16 +30,16 @@ same-front n u v e k h = sym (getD-take n v k 0 h) ∙ ap (λ (l : List ℕ). ge
 pub set-small : (k S : ℕ) → k ≤ 8 → S < 2 ^ k → S < 256
 set-small k S h s = let p : 2 ^ k ≤ 2 ^ 8 = pow-le-pow-right (omega arith) h in omega arith
 
-module _ {N : Net} {cap a : ℕ} {goals : List ℕ} {S v : ℕ} {work : List ℕ} (K : Asked N cap a goals S v work) where
+module _ {N : Net} {cap a : ℕ} {goals : List ℕ} {S v : ℕ} {work : List ℕ} (K : SetAsked N cap a goals S v work) where
   -- the set's next goal looked at
   pub reach-more : {k i : ℕ} (r t : ℕ) → Next S k i → cap < missing → held cap (some r) ≡ held cap (anyIn (graph N) (closed N) a v goals S k)
       → ((cap : ℕ) (p q s : Least) → cap < missing → getD work (1024 + S * 8 + i) 0 ≡ held cap p → getD work (64 + i * 64 + v) 0 ≡ held cap q
       → held cap (some r) ≡ held cap s → held cap (some t) ≡ held cap (lesser s (plus p q)))
       → held cap (some t) ≡ held cap (anyIn (graph N) (closed N) a v goals S (i + 1))
-  unfolding anyIn given lastly past
+  unfolding anyIn given lastly justPast
   reach-more {k} {i} r t n c e f =
       let h : i < length goals = has-below S i (length goals) (K .few) (n .in-set) in
-      let p = past (graph N) (closed N) a goals (S - 2 ^ i) i in
+      let p = justPast (graph N) (closed N) a goals (S - 2 ^ i) i in
       let q = least (graph N) (closed N) [] (exitOf (graph N) (getD goals i 0)) v in
       let s = anyIn (graph N) (closed N) a v goals S i in
       rw add-one
@@ -60,7 +60,7 @@ any-begun N cap a v S goals c = sym (is-held {r = some missing} (high c)) ∙ is
 
 -- what reach is asked for a set that is filled
 pub asked-of : {N : Net} {cap a : ℕ} {goals : List ℕ} {n : ℕ} {work : List ℕ} → Filled N cap a goals n work → (S v : ℕ) → S < n → S < 2 ^ length goals → v < N .nodes
-    → Asked N cap a goals S v work
+    → SetAsked N cap a goals S v work
 asked-of F S v h s w = record { fit = F .fit; rowed = F .rowed; set = F .sets S h; few = s; node = w }
 
 pub shifted : (i : ℕ) → i ≤ 8 → 1 * 2 ^ i % 4294967296 ≡ 2 ^ i
@@ -80,25 +80,25 @@ module _ {N : Net} {cap a : ℕ} {goals : List ℕ} {S : ℕ} {work : List ℕ} 
 
   -- other goals in the set: reach, asked for the set without goal i, has it
   pub others-reached : (b x : ℕ) → b ≡ 2 ^ i
-      → ((N : Net) (a : ℕ) (goals : List ℕ) → Asked N cap a goals (S - b) (getD work (576 + i) 0) work
+      → ((N : Net) (a : ℕ) (goals : List ℕ) → SetAsked N cap a goals (S - b) (getD work (576 + i) 0) work
       → x ≡ held cap (least (graph N) (closed N) (chosen goals (S - b)) a (getD work (576 + i) 0))) → x ≡ held cap to-entry
   others-reached b x q reach =
       let l = but-less S i e in
       subst
-      (λ (b : ℕ). Asked N cap a goals (S - b) (getD work (576 + i) 0) work → x ≡ held cap (least (graph N) (closed N) (chosen goals (S - b)) a (getD work (576 + i) 0)))
+      (λ (b : ℕ). SetAsked N cap a goals (S - b) (getD work (576 + i) 0) work → x ≡ held cap (least (graph N) (closed N) (chosen goals (S - b)) a (getD work (576 + i) 0)))
       q (reach N a goals) (asked-of F (S - 2 ^ i) (getD work (576 + i) 0) l (omega arith) (F .inside i below))
 
-  -- and past the goal itself
+  -- and justPast the goal itself
   pub past-is : (way r : ℕ) → way ≡ held cap to-entry → ((p q : Least) → way ≡ held cap p → getD work (584 + i) 0 ≡ held cap q → r ≡ held cap (plus p q))
-      → r ≡ held cap (past (graph N) (closed N) a goals (S - 2 ^ i) i)
-  unfolding past
+      → r ≡ held cap (justPast (graph N) (closed N) a goals (S - 2 ^ i) i)
+  unfolding justPast
   past-is way r b sum =
       sum (least (graph N) (closed N) (chosen goals (S - 2 ^ i)) a (entryOf (graph N) (getD goals i 0))) (ownOf (graph N) (closed N) (getD goals i 0))
       (rw (F .noted .entries i below) at b) (F .noted .owns i below)
 
 -- the entry of the set and goal i is stored, and all other entries are as they were
 pub put-one : {N : Net} {cap a : ℕ} {goals : List ℕ} {S i : ℕ} {work : List ℕ} (x : ℕ) → S < 256 → i < length goals → 3072 ≤ length work
-    → x ≡ held cap (past (graph N) (closed N) a goals (S - 2 ^ i) i) → FilledTo N cap a goals S i work → FilledTo N cap a goals S (i + 1) (set work (1024 + S * 8 + i) x)
+    → x ≡ held cap (justPast (graph N) (closed N) a goals (S - 2 ^ i) i) → FilledTo N cap a goals S i work → FilledTo N cap a goals S (i + 1) (set work (1024 + S * 8 + i) x)
 put-one {N} {cap} {a} {goals} {S} {i} {work} x s h l e F = record {
   filled = record {
     small = F .filled .small;

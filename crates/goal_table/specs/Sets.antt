@@ -25,9 +25,9 @@ unfoldable pub given : Bool → Least → Least
 given true r = r
 given false r = none
 
--- the goals of the set met, then goal i, and the walk just past it
-unfoldable pub past : Graph → (ℕ → Bool) → ℕ → List ℕ → ℕ → ℕ → Least
-past G closed a goals set i =
+-- the goals of the set met, then goal i, and the walk just justPast it
+unfoldable pub justPast : Graph → (ℕ → Bool) → ℕ → List ℕ → ℕ → ℕ → Least
+justPast G closed a goals set i =
     plus (least G closed (chosen goals set) a (entryOf G (getD goals i 0))) (ownOf G closed (getD goals i 0))
 
 -- the least length on to b over the goals below n of the set as the last goal

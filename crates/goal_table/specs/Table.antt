@@ -12,7 +12,7 @@ use Rattle.rows.specs.Net.{Net, graph, closed, count}
 use Rattle.rows.specs.Rows.{RowIs}
 use Rattle.walks.specs.Goals.{entryOf, exitOf, ownOf}
 use Rattle.walks.specs.Graph.{Graph, least}
-use Rattle.goal_table.specs.Sets.{has, past}
+use Rattle.goal_table.specs.Sets.{has, justPast}
 
 -- at most 8 goals, different items of the graph
 pub record GoalsFit (N : Net) (goals : List ℕ) : Type 0 where
@@ -46,7 +46,7 @@ Noted N cap goals work = NotedTo N cap goals (length goals) work
 -- the table's entries for the goals of a set that are below n; nothing is said of an entry for a goal that is not in it
 abbrev pub SetAt : Net → ℕ → ℕ → List ℕ → ℕ → ℕ → List ℕ → Type 0
 SetAt N cap a goals S n work =
-    (i : ℕ) → i < n → has S i ≡ true → getD work (1024 + S * 8 + i) 0 ≡ held cap (past (graph N) (closed N) a goals (S - 2 ^ i) i)
+    (i : ℕ) → i < n → has S i ≡ true → getD work (1024 + S * 8 + i) 0 ≡ held cap (justPast (graph N) (closed N) a goals (S - 2 ^ i) i)
 
 -- the work once the rows are done and the table's entries for the sets below n
 pub record Filled (N : Net) (cap a : ℕ) (goals : List ℕ) (n : ℕ) (work : List ℕ) : Type 0 where
@@ -63,7 +63,7 @@ pub record FilledTo (N : Net) (cap a : ℕ) (goals : List ℕ) (n i : ℕ) (work
   pub set : SetAt N cap a goals n i work
 
 -- the work has what tells the least length over the goals of the set S to v
-pub record Asked (N : Net) (cap a : ℕ) (goals : List ℕ) (S v : ℕ) (work : List ℕ) : Type 0 where
+pub record SetAsked (N : Net) (cap a : ℕ) (goals : List ℕ) (S v : ℕ) (work : List ℕ) : Type 0 where
   pub fit : GoalsFit N goals
   pub rowed : Rowed N cap a goals work
   pub set : SetAt N cap a goals S (length goals) work

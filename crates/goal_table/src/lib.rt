@@ -9,7 +9,7 @@ ghost use Rattle.walks.specs.Graph.{least as leastOf};
 ghost use Rattle.rows.specs.Held.{missing, held};
 ghost use Rattle.rows.specs.Net.{Net, graph, closed};
 ghost use Rattle.goal_table.specs.Sets.{has, chosen};
-ghost use Rattle.goal_table.specs.Table.{FilledTo, Asked, SetFits, TableOnly};
+ghost use Rattle.goal_table.specs.Table.{FilledTo, SetAsked, SetFits, TableOnly};
 use rows::MISSING;
 use rows::ROW_LENGTH;
 
@@ -68,7 +68,7 @@ fn better(work: &[u32], set: u32, i: usize, v: usize, r: u64) -> u64
 // The least length from the source to `v` that meets the goals of the set, which holds at least one.
 pub fn reach(work: &[u32], set: u32, v: usize, cap: u32) -> u32
     requires { ⌜ (3072 ≤ length (now work)) × (0 < set) × (set < 256) × (v < 64) × (cap < missing) ⌝ }
-    ensures { λ r. ⌜ ((N : Net) (a : ℕ) (goals : List ℕ) → Asked N cap a goals set v (now (work .entry)) → r ≡ held cap (leastOf (graph N) (closed N) (chosen goals set) a v)) ⌝ }
+    ensures { λ r. ⌜ ((N : Net) (a : ℕ) (goals : List ℕ) → SetAsked N cap a goals set v (now (work .entry)) → r ≡ held cap (leastOf (graph N) (closed N) (chosen goals set) a v)) ⌝ }
 {
     let mut r = MISSING as u64;
     let mut rest = set;

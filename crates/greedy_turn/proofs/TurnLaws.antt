@@ -31,7 +31,7 @@ use Rattle.row_save.specs.Kept.{RowsBack}
 use Rattle.row_save.specs.Unmoved.{Unmoved}
 use Rattle.row_links.specs.Links.{Linked}
 use Rattle.row_reopen.specs.Openings.{Opened, ItemOpened}
-use Rattle.greedy_turn.specs.Turns.{Setting, fitsAt, Ready, Judged, State, Turned, Begun}
+use Rattle.greedy_turn.specs.Turns.{Setting, fitsAt, Ready, TurnJudged, State, Turned, Begun}
 use Rattle.greedy_turn.proofs.SameLaws.{Same, Alike, goals-same}
 
 -- a walk fits where the length that is held is at most the cap
@@ -163,7 +163,7 @@ module _ {n : ℕ} {xs : List ℕ} {to cap : ℕ} {goals starts : List ℕ} (S :
     noted : Noted (netOf n xs marks) cap goals mid
     noted = noted-same S old i marks (O .opened) away work mid (λ j h k. I .saves .beside j (omega (arith, S .counted, S .eight)) (omega arith)) (W .noted)
 
-    pub judged-unmoved : Unmoved mid (length starts) kept (length goals) to → Judged n xs to cap goals starts old marks mid true
+    pub judged-unmoved : Unmoved mid (length starts) kept (length goals) to → TurnJudged n xs to cap goals starts old marks mid true
     judged-unmoved U = record {
       answer =
           fits-same S old i marks (O .opened) away work mid (W .rows) rows (S .target, λ j h. stays j to (S .target) h (λ b. U j h b .target))
@@ -184,7 +184,7 @@ module _ {n : ℕ} {xs : List ℕ} {to cap : ℕ} {goals starts : List ℕ} (S :
   pub judged-asked : (after : List ℕ) (r : Bool)
       → (Rowed (netOf n xs marks) cap (getD starts 0 0) goals mid → fitsAt n xs to cap goals starts marks ≡ not r)
       → (r ≡ true → Noted (netOf n xs marks) cap goals after × (take 576 after ≡ take 576 mid)) → (r ≡ false → RowsBack mid (length starts) kept after)
-      → Judged n xs to cap goals starts old marks after r
+      → TurnJudged n xs to cap goals starts old marks after r
   judged-asked after r a t f = record {
     answer = a (rowed-of (length starts) (S .counted) (S .begin) rows);
     opened = λ q. record {
@@ -209,11 +209,11 @@ module _ {n : ℕ} {xs : List ℕ} {to cap : ℕ} {goals starts marks : List ℕ
   turn-passed p = record { passed = λ _. (refl, refl); tried = λ q. absurd (true≢false (sym q ∙ p)) }
 
   module _ (p : closedIn marks i ≡ true) where
-    pub turn-opened : {after : List ℕ} → Judged n xs to cap goals starts marks (set marks i 0) after true
+    pub turn-opened : {after : List ℕ} → TurnJudged n xs to cap goals starts marks (set marks i 0) after true
         → Turned n xs to cap goals starts marks i (set marks i 0) false
     turn-opened J = record { passed = λ q. absurd (true≢false (sym p ∙ q)); tried = λ _. (J .answer, refl) }
 
-    pub turn-listed : {after : List ℕ} → Judged n xs to cap goals starts marks (set marks i 0) after false
+    pub turn-listed : {after : List ℕ} → TurnJudged n xs to cap goals starts marks (set marks i 0) after false
         → Turned n xs to cap goals starts marks i (set (set marks i 0) i 2) true
     turn-listed J = record { passed = λ q. absurd (true≢false (sym p ∙ q)); tried = λ _. (J .answer, closed-again marks i p) }
 
@@ -225,7 +225,7 @@ module _ {n : ℕ} {xs : List ℕ} {to cap : ℕ} {goals starts marks packed : L
       omega (arith, T .ready .noted .entries j h, S .few)
 
   pub state-opened : {packed′ work′ : List ℕ} {c′ : ℕ} → length work′ ≡ length work → Linked (netOf n xs (set marks i 0)) c′ packed′
-      → Judged n xs to cap goals starts marks (set marks i 0) work′ true → State n xs (set marks i 0) to cap goals starts packed′ c′ work′
+      → TurnJudged n xs to cap goals starts marks (set marks i 0) work′ true → State n xs (set marks i 0) to cap goals starts packed′ c′ work′
   state-opened w L J = record {
     marked = omega (arith, T .marked, length-set marks i 0);
     links = L;
@@ -236,7 +236,7 @@ module _ {n : ℕ} {xs : List ℕ} {to cap : ℕ} {goals starts marks packed : L
 
   pub state-listed : {packed′ mid work′ : List ℕ} {c′ : ℕ} → closedIn marks i ≡ true → length work′ ≡ length work
       → Linked (netOf n xs (set (set marks i 0) i 2)) c′ packed′
-      → Judged n xs to cap goals starts marks (set marks i 0) mid false → Noted (netOf n xs (set (set marks i 0) i 2)) cap goals work′
+      → TurnJudged n xs to cap goals starts marks (set marks i 0) mid false → Noted (netOf n xs (set (set marks i 0) i 2)) cap goals work′
       → take 576 work′ ≡ take 576 mid → State n xs (set (set marks i 0) i 2) to cap goals starts packed′ c′ work′
   state-listed {packed′} {mid} {work′} p w L J N e = record {
     marked = omega (arith, T .marked, length-set marks i 0, length-set (set marks i 0) i 2);

@@ -35,7 +35,7 @@ pub record Ready (n : ℕ) (xs marks : List ℕ) (cap : ℕ) (goals starts work 
   pub noted : Noted (netOf n xs marks) cap goals work
 
 -- Whether no walk fits once an item is opened: then the work holds what it has to for the marks, else the rows before are back.
-pub record Judged (n : ℕ) (xs : List ℕ) (to cap : ℕ) (goals starts old marks after : List ℕ) (r : Bool) : Type 0 where
+pub record TurnJudged (n : ℕ) (xs : List ℕ) (to cap : ℕ) (goals starts old marks after : List ℕ) (r : Bool) : Type 0 where
   pub answer : fitsAt n xs to cap goals starts marks ≡ not r
   pub opened : r ≡ true → Ready n xs marks cap goals starts after
   pub back : r ≡ false → RowsAre (netOf n xs old) cap starts (length starts) after

@@ -11,7 +11,7 @@ ghost use Rattle.rows.specs.Net.{netOf, arcCount, Proper};
 ghost use Rattle.row_save.specs.Kept.{RowsBack};
 ghost use Rattle.row_links.specs.Links.{Linked, Shaped, takenOff};
 ghost use Rattle.goal_table.specs.Table.{GoalsFit, Rowed, Noted};
-ghost use Rattle.greedy_turn.specs.Turns.{Setting, fitsAt, Ready, Judged, State, Turned};
+ghost use Rattle.greedy_turn.specs.Turns.{Setting, fitsAt, Ready, TurnJudged, State, Turned};
 use lengths::Query;
 use row_reopen::Opening;
 use rows::FORBIDDEN;
@@ -57,7 +57,7 @@ pub struct KeptRows {
 }
 
 // Whether no walk meets the goals within the limit. Where one does, the rows that were kept are put back.
-fn judge(
+fn stays_open(
     q: Query,
     k: KeptRows,
     arcs: &[u32],
@@ -92,7 +92,7 @@ fn blocked(
     requires { ⌜ Setting (o .nodes) (now arcs) (o .to) (o .cap) (now goals) (now starts) × Linked (netOf (o .nodes) (now arcs) (now marks)) (o .count) (now packed) ⌝ }
     requires { ⌜ (o .nodes + arcCount (now arcs) ≤ length (now marks)) × (o .item < o .nodes + arcCount (now arcs)) × (length (now work) ≡ 3648) × ((i : ℕ) → i < length (now goals) → getD (now work) (576 + i) 0 < 64) ⌝ }
     requires { ⌜ (o .goal ≡ false → (i : ℕ) → i < length (now goals) → getD (now goals) i 0 ≡ o .item → ⊥) ⌝ }
-    ensures { λ r. ⌜ ((old : List ℕ) → now (marks .entry) ≡ set old (o .item) 0 → Ready (o .nodes) (now (arcs .entry)) old (o .cap) (now (goals .entry)) (now (starts .entry)) (now (work .entry)) → fitsAt (o .nodes) (now (arcs .entry)) (o .to) (o .cap) (now (goals .entry)) (now (starts .entry)) old ≡ false → Judged (o .nodes) (now (arcs .entry)) (o .to) (o .cap) (now (goals .entry)) (now (starts .entry)) old (now (marks .entry)) (now (work .exit)) r) ⌝ }
+    ensures { λ r. ⌜ ((old : List ℕ) → now (marks .entry) ≡ set old (o .item) 0 → Ready (o .nodes) (now (arcs .entry)) old (o .cap) (now (goals .entry)) (now (starts .entry)) (now (work .entry)) → fitsAt (o .nodes) (now (arcs .entry)) (o .to) (o .cap) (now (goals .entry)) (now (starts .entry)) old ≡ false → TurnJudged (o .nodes) (now (arcs .entry)) (o .to) (o .cap) (now (goals .entry)) (now (starts .entry)) old (now (marks .entry)) (now (work .exit)) r) ⌝ }
 {
     let goal = o.goal;
     let to = o.to;
@@ -107,10 +107,10 @@ fn blocked(
         kept: row_reopen::open_item(o, arcs, marks, packed, starts, work),
     };
     if goal {
-        return judge(q, k, arcs, marks, goals, work);
+        return stays_open(q, k, arcs, marks, goals, work);
     }
     if row_save::moved(work, k.rows, k.kept, goals.len(), to) {
-        return judge(q, k, arcs, marks, goals, work);
+        return stays_open(q, k, arcs, marks, goals, work);
     }
     true
 }
@@ -124,7 +124,7 @@ pub struct Turn {
     pub count: usize,
 }
 
-pub struct Outcome {
+pub struct TurnEnd {
     pub listed: bool,
     pub count: usize,
 }
@@ -155,7 +155,7 @@ pub fn take_turn(
     starts: &[usize],
     goals: &[usize],
     work: &mut [u32],
-) -> Outcome
+) -> TurnEnd
     requires { ⌜ Setting (t .nodes) (now arcs) (t .to) (t .cap) (now goals) (now starts) × (length (now arcs) ≤ 1536) × (t .item < t .nodes + arcCount (now arcs)) ⌝ }
     requires { ⌜ State (t .nodes) (now arcs) (now marks) (t .to) (t .cap) (now goals) (now starts) (now packed) (t .count) (now work) ⌝ }
     ensures { λ r. ⌜ Turned (t .nodes) (now (arcs .entry)) (t .to) (t .cap) (now (goals .entry)) (now (starts .entry)) (now (marks .entry)) (t .item) (now (marks .exit)) (r .listed) ⌝ }
@@ -165,7 +165,7 @@ pub fn take_turn(
     let item = t.item;
     let cap = t.cap;
     if marks[item] != FORBIDDEN {
-        return Outcome {
+        return TurnEnd {
             listed: false,
             count: t.count,
         };
@@ -181,14 +181,14 @@ pub fn take_turn(
         count,
     };
     if blocked(o, arcs, marks, packed, starts, goals, work) {
-        return Outcome {
+        return TurnEnd {
             listed: false,
             count,
         };
     }
     marks[item] = FORBIDDEN;
     lengths::note_goals(nodes, arcs, marks, goals, work, cap);
-    Outcome {
+    TurnEnd {
         listed: true,
         count: link_closed(t, count, arcs, marks, packed),
     }

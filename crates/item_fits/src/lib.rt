@@ -10,7 +10,7 @@ use rows::ROW_LENGTH;
 use sheet::Header;
 
 // Fills the row from the source and behind it the row to the target.
-pub fn fill_rows(header: Header, arcs: &[u32], marks: &[u8], rows: &mut [u32])
+pub fn fill_end_rows(header: Header, arcs: &[u32], marks: &[u8], rows: &mut [u32])
     requires { ⌜ Whole header (now arcs) (now marks) × (length (now rows) ≡ 128) ⌝ }
     ensures { λ _. ⌜ Rows header (now (arcs .entry)) (now (marks .entry)) (now (rows .exit)) ⌝ }
 {

@@ -18,7 +18,7 @@ use Rattle.walks.specs.Goals.{entryOf, exitOf, ownOf}
 use Rattle.goal_table.proofs.SetLaws.{length-none, chosen-all}
 use Rattle.goal_table.proofs.TableLaws.{same-front, asked-of}
 use Rattle.goal_table.specs.Sets.{chosen}
-use Rattle.goal_table.specs.Table.{GoalsFit, StartsTo, StartsAre, Rowed, NotedTo, Noted, Filled, Asked, TableFits}
+use Rattle.goal_table.specs.Table.{GoalsFit, StartsTo, StartsAre, Rowed, NotedTo, Noted, Filled, SetAsked, TableFits}
 
 -- the rows of the starts are those from a and from where each goal is left
 pub rowed-of : {N : Net} {cap a : ℕ} {goals starts work : List ℕ} (n : ℕ) → n ≡ length goals + 1 → StartsAre (graph N) a goals starts → RowsAre N cap starts n work
@@ -162,7 +162,7 @@ module _ {N : Net} {cap a : ℕ} {goals work : List ℕ} (k v : ℕ) (l : length
   no-goals z = rw (length-none goals (l ∙ z)) (F .rowed .first v h)
 
   pub all-goals : (b r : ℕ) → b ≡ 2 ^ k
-      → ((N : Net) (a : ℕ) (goals′ : List ℕ) → Asked N cap a goals′ (b - 1) v work → r ≡ held cap (least (graph N) (closed N) (chosen goals′ (b - 1)) a v))
+      → ((N : Net) (a : ℕ) (goals′ : List ℕ) → SetAsked N cap a goals′ (b - 1) v work → r ≡ held cap (least (graph N) (closed N) (chosen goals′ (b - 1)) a v))
       → r ≡ held cap (least (graph N) (closed N) goals a v)
   all-goals b r q reach =
       let p : 1 ≤ 2 ^ k = one-le-pow k 2 (omega arith) in

@@ -11,13 +11,13 @@ ghost use Rattle.numbers.specs.Answer.{sectionOf, sectionEnd};
 use varint::Number;
 
 // Where a section of values of one kind ends, or the refusal.
-pub enum Section {
-    Ended(usize),
-    Stopped(u32),
+pub enum SectionRead {
+    Got(usize),
+    Refused(u32),
 }
 
 // Passes over the numbers that stand from `from` on.
-pub fn skip_numbers(bytes: &[u8], from: usize, count: usize) -> Section
+pub fn skip_numbers(bytes: &[u8], from: usize, count: usize) -> SectionRead
     ensures { λ r. ⌜ sectionOf (now (bytes .entry)) (begun readNumber count (drop from (now (bytes .entry)))) r ≡ several readNumber count (drop from (now (bytes .entry))) ⌝ }
     ensures { λ r. ⌜ (from ≤ length (now (bytes .entry)) → sectionEnd r ≤ length (now (bytes .entry))) ⌝ }
 {
@@ -29,15 +29,15 @@ pub fn skip_numbers(bytes: &[u8], from: usize, count: usize) -> Section
                 at = next;
             }
             Number::Ends => {
-                return Section::Stopped(3);
+                return SectionRead::Refused(3);
             }
             Number::Overlong => {
-                return Section::Stopped(4);
+                return SectionRead::Refused(4);
             }
         }
         j += 1;
     }
-    Section::Ended(at)
+    SectionRead::Got(at)
 }
 
 // Stores the numbers that stand from `from` on over the front of `out`, up to the first that cannot be read.

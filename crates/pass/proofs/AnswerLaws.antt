@@ -9,7 +9,7 @@ use Rattle.sheet.specs.declared.Header.{Header}
 use Rattle.pass_verdict.specs.declared.Verdict.{Verdict}
 use Rattle.varint.specs.Answer.{small}
 use Rattle.sheet_required.proofs.HeldLaws.{items-are, goals-at, listed-front}
-use Rattle.pass_verdict.specs.Judged.{Judged}
+use Rattle.pass_verdict.specs.VerdictFound.{VerdictFound}
 use Rattle.sheet_required.specs.Held.{Whole, sheetOf}
 use Rattle.goal_table.specs.Table.{GoalsFit}
 use Rattle.lists.proofs.AscendLaws.{ascends-distinct}
@@ -34,7 +34,7 @@ pub reasons-inside : {h : Header} {arcs marks : List ℕ} → Whole h arcs marks
     → k ≡ length (reasonsFor (sheetOf h arcs marks) goals) → length out ≡ 576 → k ≤ length out
 reasons-inside {h} {arcs} {marks} W goals out k e l = omega (arith, reasons-count (sheetOf h arcs marks) goals, items-are W, W .proper .few, W .few)
 
-module _ {h : Header} {arcs marks : List ℕ} (W : Whole h arcs marks) (v : Verdict) (list : List ℕ) (J : Judged (sheetOf h arcs marks) v list) where
+module _ {h : Header} {arcs marks : List ℕ} (W : Whole h arcs marks) (v : Verdict) (list : List ℕ) (J : VerdictFound (sheetOf h arcs marks) v list) where
   abbrev S : Sheet
   S = sheetOf h arcs marks
 

@@ -63,7 +63,7 @@ pub fn ready_rows(
 }
 
 // Writes the reasons for the goals, whose rows are in the work, over the front of `list` and gives their count.
-pub fn list_reasons(
+pub fn list_for_sheet(
     header: Header,
     arcs: &[u32],
     marks: &[u8],
@@ -100,16 +100,16 @@ fn write_answer(
     ensures { λ _. ⌜ drop 16384 (now (work .exit)) ≡ drop 16384 (now (work .entry)) ⌝ }
 {
     let mut rows = [0u32; TWO_ROWS];
-    item_fits::fill_rows(header, arcs, marks, &mut rows);
+    item_fits::fill_end_rows(header, arcs, marks, &mut rows);
     let mut goals = [0usize; ROW_LENGTH];
-    let verdict = pass_verdict::judge(header, arcs, marks, &rows, &mut goals, work);
+    let verdict = pass_verdict::find_verdict(header, arcs, marks, &rows, &mut goals, work);
     if verdict.number == 0 {
         return pass_marks::write_stands(header, arcs, marks, &rows, slip);
     }
     let count = verdict.count;
     let mut list = [0u32; ITEMS];
     ready_rows(header, arcs, marks, verdict.number, &goals[..count], work);
-    let n = list_reasons(header, arcs, marks, &goals[..count], work, &mut list);
+    let n = list_for_sheet(header, arcs, marks, &goals[..count], work, &mut list);
     slip_writer::write_slip(slip, verdict.number, &goals[..count], &list[..n])
 }
 
@@ -132,7 +132,7 @@ pub fn pass(sheet: &[u8], work: &mut [u32], slip: &mut [u8]) -> Answer
     let mut arcs = [0u32; ARC_NUMBERS];
     let mut marks = [0u8; ITEMS];
     let header = match sheet_reader::read(sheet, &mut arcs, &mut marks) {
-        SheetRead::Taken(header) => header,
+        SheetRead::Got(header) => header,
         SheetRead::Refused(why) => return Answer {
             number: why,
             length: 0,

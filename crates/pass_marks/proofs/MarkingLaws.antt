@@ -21,14 +21,14 @@ use Rattle.pass_rules.proofs.SlipOfPass.{new-marks-size, new-marks-at}
 use Rattle.pass_rules.proofs.VerdictLaws.{other-mark}
 use Rattle.pass_rules.specs.Verdict.{fitsSheet, isPruned, isForced, newMark, newMarks}
 use Rattle.sheet_required.proofs.HeldLaws.{items-are}
-use Rattle.pass_marks.specs.Forced.{Forced}
+use Rattle.pass_marks.specs.ForcedNodes.{ForcedNodes}
 
 module _ (S : Sheet) (ends : List ℕ) (E : Ends S ends) (few : S .graph .nodes ≤ 64) (s : S .source < S .graph .nodes) (t : S .target < S .graph .nodes) where
   one : List ℕ
   one = set ends (S .source) 1
 
   -- source and target are put in
-  pub forced-are : Forced S (set (set ends (S .source) 1) (S .target) 1)
+  pub forced-are : ForcedNodes S (set (set ends (S .source) 1) (S .target) 1)
   unfolding isForced
   forced-are = record { size = simp length-set (E .size); each = λ p h. rw (lt-ltb p (S .graph .nodes) h) (go p h (true-or-false (eqb p (S .target))) (true-or-false (eqb p (S .source)))) }
     where

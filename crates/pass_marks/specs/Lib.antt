@@ -1,1 +1,1 @@
-pub mod Forced
+pub mod ForcedNodes

@@ -7,7 +7,7 @@ ghost use Rattle.lists.specs.Lists.{front};
 ghost use Rattle.pass_rules.specs.Verdict.{newMark, newMarks};
 ghost use Rattle.sheet_required.specs.Held.{sheetOf, Whole};
 ghost use Rattle.item_fits.specs.Rows.{Rows};
-ghost use Rattle.pass_marks.specs.Forced.{Forced};
+ghost use Rattle.pass_marks.specs.ForcedNodes.{ForcedNodes};
 use sheet::Header;
 
 const OPEN: u8 = 0;
@@ -19,7 +19,7 @@ const FORBIDDEN: u8 = 2;
 // The nodes that become mandatory where they are open, marked 1: source, target and the ends of mandatory arcs.
 fn forced_nodes(header: Header, arcs: &[u32], marks: &[u8]) -> [u8; 64]
     requires { ⌜ Whole header (now arcs) (now marks) ⌝ }
-    ensures { λ r. ⌜ Forced (sheetOf header (now (arcs .entry)) (now (marks .entry))) r ⌝ }
+    ensures { λ r. ⌜ ForcedNodes (sheetOf header (now (arcs .entry)) (now (marks .entry))) r ⌝ }
 {
     let mut forced = sheet_required::ends_of(header, arcs, marks);
     let source = header.source;
@@ -39,7 +39,7 @@ fn new_mark(
     item: usize,
 ) -> u8
     requires { ⌜ Rows header (now arcs) (now marks) (now rows) × (item < header .nodes + header .arcs) ⌝ }
-    requires { ⌜ Forced (sheetOf header (now arcs) (now marks)) (now forced) ⌝ }
+    requires { ⌜ ForcedNodes (sheetOf header (now arcs) (now marks)) (now forced) ⌝ }
     ensures { λ r. ⌜ r ≡ newMark (sheetOf header (now (arcs .entry)) (now (marks .entry))) item ⌝ }
 {
     let mark = marks[item];

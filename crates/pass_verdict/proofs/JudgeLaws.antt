@@ -19,7 +19,7 @@ use Rattle.sheet.specs.Sheet.{Sheet, isMandatory, allItems, required, markOf}
 use Rattle.pass_rules.specs.Verdict.{fitsSheet, unmet, verdictFrom, verdict}
 use Rattle.walks.specs.Flat.{graphOf}
 use Rattle.walks.specs.Graph.{itemCount}
-use Rattle.pass_verdict.specs.Judged.{Judged}
+use Rattle.pass_verdict.specs.VerdictFound.{VerdictFound}
 
 module _ {h : Header} {arcs marks : List ℕ} (W : Whole h arcs marks) where
   abbrev S : Sheet
@@ -67,20 +67,20 @@ module _ {h : Header} {arcs marks : List ℕ} (W : Whole h arcs marks) where
   }
 
 module _ (S : Sheet) where
-  pub judged-one : (list : List ℕ) → fitsSheet S [] ≡ false → Judged S (record { number = 1; count = 0 }) list
+  pub judged-one : (list : List ℕ) → fitsSheet S [] ≡ false → VerdictFound S (record { number = 1; count = 0 }) list
   unfolding verdict verdictFrom
   judged-one list e = record { number = rw e; goals = rw e; count = omega arith }
 
-  pub judged-two : (i : ℕ) (is list : List ℕ) → fitsSheet S [] ≡ true → unmet S ≡ i ∷ is → take 1 list ≡ i ∷ [] → Judged S (record { number = 2; count = 1 }) list
+  pub judged-two : (i : ℕ) (is list : List ℕ) → fitsSheet S [] ≡ true → unmet S ≡ i ∷ is → take 1 list ≡ i ∷ [] → VerdictFound S (record { number = 2; count = 1 }) list
   unfolding verdict verdictFrom
   judged-two i is list e u t = record { number = rw (e, u); goals = rw (e, u) t; count = omega arith }
 
   pub judged-three : (n : ℕ) (list : List ℕ) → fitsSheet S [] ≡ true → unmet S ≡ [] → fitsSheet S (required S) ≡ false → take n list ≡ required S → n ≤ 8
-      → Judged S (record { number = 3; count = n }) list
+      → VerdictFound S (record { number = 3; count = n }) list
   unfolding verdict verdictFrom
   judged-three n list e u f t l = record { number = rw (e, u, f); goals = rw (e, u, f) t; count = l }
 
-  pub judged-zero : (list : List ℕ) → fitsSheet S [] ≡ true → unmet S ≡ [] → fitsSheet S (required S) ≡ true → Judged S (record { number = 0; count = 0 }) list
+  pub judged-zero : (list : List ℕ) → fitsSheet S [] ≡ true → unmet S ≡ [] → fitsSheet S (required S) ≡ true → VerdictFound S (record { number = 0; count = 0 }) list
   unfolding verdict verdictFrom
   judged-zero list e u f = record { number = rw (e, u, f); goals = rw (e, u, f); count = omega arith }
 

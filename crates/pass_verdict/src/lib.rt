@@ -10,7 +10,7 @@ ghost use Rattle.rows.specs.Net.{netOf};
 ghost use Rattle.pass_rules.specs.Verdict.{fitsSheet, unmet};
 ghost use Rattle.sheet_required.specs.Held.{sheetOf, Whole};
 ghost use Rattle.item_fits.specs.Rows.{Rows};
-ghost use Rattle.pass_verdict.specs.Judged.{Judged};
+ghost use Rattle.pass_verdict.specs.VerdictFound.{VerdictFound};
 use lengths::Query;
 use sheet::Header;
 
@@ -76,7 +76,7 @@ fn judge_together(
 ) -> Verdict
     requires { ⌜ Whole header (now arcs) (now marks) × (length (now goals) ≡ 64) × (16384 ≤ length (now work)) ⌝ }
     requires { ⌜ (fitsSheet (sheetOf header (now arcs) (now marks)) [] ≡ true) × (unmet (sheetOf header (now arcs) (now marks)) ≡ []) ⌝ }
-    ensures { λ r. ⌜ Judged (sheetOf header (now (arcs .entry)) (now (marks .entry))) r (now (goals .exit)) ⌝ }
+    ensures { λ r. ⌜ VerdictFound (sheetOf header (now (arcs .entry)) (now (marks .entry))) r (now (goals .exit)) ⌝ }
     ensures { λ r. ⌜ (r .number ≡ 3 → Rowed (netOf (header .nodes) (now (arcs .entry)) (now (marks .entry))) (header .limit) (header .source) (take (r .count) (now (goals .exit))) (now (work .exit))) ⌝ }
     ensures { λ _. ⌜ drop 16384 (now (work .exit)) ≡ drop 16384 (now (work .entry)) ⌝ }
 {
@@ -100,7 +100,7 @@ fn judge_together(
 }
 
 // The verdict of a sheet. Its goals stand in front of `goals` then, and for verdict 3 their rows in the work.
-pub fn judge(
+pub fn find_verdict(
     header: Header,
     arcs: &[u32],
     marks: &[u8],
@@ -109,7 +109,7 @@ pub fn judge(
     work: &mut [u32],
 ) -> Verdict
     requires { ⌜ Rows header (now arcs) (now marks) (now rows) × (length (now goals) ≡ 64) × (16384 ≤ length (now work)) ⌝ }
-    ensures { λ r. ⌜ Judged (sheetOf header (now (arcs .entry)) (now (marks .entry))) r (now (goals .exit)) ⌝ }
+    ensures { λ r. ⌜ VerdictFound (sheetOf header (now (arcs .entry)) (now (marks .entry))) r (now (goals .exit)) ⌝ }
     ensures { λ r. ⌜ (r .number ≡ 3 → Rowed (netOf (header .nodes) (now (arcs .entry)) (now (marks .entry))) (header .limit) (header .source) (take (r .count) (now (goals .exit))) (now (work .exit))) ⌝ }
     ensures { λ _. ⌜ drop 16384 (now (work .exit)) ≡ drop 16384 (now (work .entry)) ⌝ }
 {

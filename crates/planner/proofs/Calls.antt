@@ -15,11 +15,11 @@ use Rattle.pass_rules.proofs.Demand2.{finished-is}
 use Rattle.pass_rules.specs.Pass.{passed, written, verdictIn}
 use Rattle.pass_rules.specs.Verdict.{verdict, slipFor}
 use Rattle.check_rules.proofs.CheckLaws.{check-pass, check-reason}
-use Rattle.check_rules.specs.Check.{outcome, checkOn, checked}
+use Rattle.check_rules.specs.Check.{checkOutcome, checkOn, checked}
 
 module _ (sheet work slip lent : List ℕ) (h : workNumbers ≤ length lent) where
   says-yes : (bytes : List ℕ) → checkOn sheet bytes ≡ got true [] → checked sheet lent bytes ≡ record { number = 0; yes = true; work = zeroed lent }
-  unfolding checked outcome
+  unfolding checked checkOutcome
   says-yes bytes e = rw (le-ltb (length lent) workNumbers h, e)
 
   pub call-check-pass : passed sheet work slip .number ≡ 0 → (verdictIn (written (passed sheet work slip)) ≡ 0 → ⊥)

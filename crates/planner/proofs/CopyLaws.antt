@@ -17,9 +17,9 @@ use Rattle.pass_rules.specs.Pass as pass
 use Rattle.pass_rules.specs.Pass.{Answer, finished, refused, passOn, passed}
 use Rattle.check_rules.specs.Check as check
 use Rattle.check_rules.specs.Check.{checkOn, checked}
-use Rattle.planner.specs.Copied.{numbersOf, bytesOf, copiedOut, checkCopiedOut}
+use Rattle.planner.specs.Copied.{numbersOf, workBytesOf, copiedOut, checkCopiedOut}
 use Rattle.work.specs.Bytes.{zeroedBytes, bytesAfter, leftBytes}
-use Rattle.planner.specs.Layer.{outcome, lentEnough, passedBytes, reasonedBytes}
+use Rattle.planner.specs.Layer.{bytesOutcome, bytesEnough, passedBytes, reasonedBytes}
 use Rattle.planner.specs.Check.{checkedBytes}
 use Rattle.work.proofs.BytesLaws.{left-finished, left-refused}
 use Rattle.planner.proofs.LayerLaws.{Within, in-bytes, enough, enough-within}
@@ -28,8 +28,8 @@ use Rattle.planner.proofs.WithinLaws.{pass-within, reason-within, check
 
 -- a number made of four bytes gives them back
 number-back : (a b c d : ℕ) (xs : List ℕ) → a < 256 → b < 256 → c < 256 → d < 256
-    → bytesOf ((a + 256 * b + 65536 * c + 16777216 * d) ∷ xs) ≡ a ∷ b ∷ c ∷ d ∷ bytesOf xs
-unfolding bytesOf
+    → workBytesOf ((a + 256 * b + 65536 * c + 16777216 * d) ∷ xs) ≡ a ∷ b ∷ c ∷ d ∷ workBytesOf xs
+unfolding workBytesOf
 number-back a b c d xs p q r s =
     let x = a + 256 * b + 65536 * c + 16777216 * d in
     let e : x % 256 ≡ a = omega arith in
@@ -41,8 +41,8 @@ number-back a b c d xs p q r s =
     let h₁ : x / 16777216 % 256 ≡ d = rw h (omega arith) in
     rw (e, f₁, g₁, h₁)
 
-bytes-back : (k : ℕ) (bytes : List ℕ) → Below 256 bytes → 4 * k ≤ length bytes → bytesOf (numbersOf k bytes) ≡ take (4 * k) bytes
-unfolding numbersOf bytesOf
+bytes-back : (k : ℕ) (bytes : List ℕ) → Below 256 bytes → 4 * k ≤ length bytes → workBytesOf (numbersOf k bytes) ≡ take (4 * k) bytes
+unfolding numbersOf workBytesOf
 bytes-back zero bytes b h = refl
 bytes-back (suc k) [] b h = absurd (omega arith)
 bytes-back (suc k) (w ∷ []) b h = absurd (omega arith)
@@ -59,8 +59,8 @@ unfolding numbersOf
 length-numbers zero bytes = refl
 length-numbers (suc k) bytes = ap suc (length-numbers k (drop 4 bytes))
 
-bytes-zeros : (k : ℕ) → bytesOf (zeros k) ≡ zeros (4 * k)
-unfolding bytesOf zeros
+bytes-zeros : (k : ℕ) → workBytesOf (zeros k) ≡ zeros (4 * k)
+unfolding workBytesOf zeros
 bytes-zeros zero = refl
 bytes-zeros (suc k) =
     let n : 4 * suc k ≡ suc (suc (suc (suc (4 * k)))) = omega arith in
@@ -70,7 +70,7 @@ length-zeros : (k : ℕ) → length (zeros k) ≡ k
 unfolding zeros
 length-zeros k = length-replicate {A = ℕ} k 0
 
-front-zeros : (k : ℕ) (work : List ℕ) → front (bytesOf (zeros k)) work ≡ zeros (4 * k) ++ drop (4 * k) work
+front-zeros : (k : ℕ) (work : List ℕ) → front (workBytesOf (zeros k)) work ≡ zeros (4 * k) ++ drop (4 * k) work
 front-zeros k work = rw (bytes-zeros k, length-zeros (4 * k))
 
 module _ (work : List ℕ) (h : 65536 ≤ length work) (b : Below 256 work) where
@@ -84,38 +84,38 @@ module _ (work : List ℕ) (h : 65536 ≤ length work) (b : Below 256 work) wher
       let n : drop 16384 numbers ≡ [] = drop-of-length-le numbers {i = 16384} (omega (arith, length-numbers 16384 work)) in
       rw n (append-nil (zeros 16384))
 
-  zero-out : front (bytesOf (zeroed numbers)) work ≡ zeroedBytes work
+  zero-out : front (workBytesOf (zeroed numbers)) work ≡ zeroedBytes work
   unfolding zeroedBytes
-  zero-out = ap (λ (xs : List ℕ). front (bytesOf xs) work) zeroed-numbers ∙ front-zeros 16384 work
+  zero-out = ap (λ (xs : List ℕ). front (workBytesOf xs) work) zeroed-numbers ∙ front-zeros 16384 work
 
-  same-out : front (bytesOf numbers) work ≡ work
+  same-out : front (workBytesOf numbers) work ≡ work
   same-out =
-      let e : bytesOf numbers ≡ take 65536 work = bytes-back 16384 work b h in
+      let e : workBytesOf numbers ≡ take 65536 work = bytes-back 16384 work b h in
       ap (λ (xs : List ℕ). front xs work) e ∙ ap (λ (k : ℕ). take 65536 work ++ drop k work) (length-take-le 65536 work h) ∙ take-append-drop 65536 work
 
-  refused-out : (e : ℕ) → 1 ≤ e → front (bytesOf (workAfter e numbers)) work ≡ leftBytes e work
+  refused-out : (e : ℕ) → 1 ≤ e → front (workBytesOf (workAfter e numbers)) work ≡ leftBytes e work
   unfolding workAfter bytesAfter
   refused-out e l = go (leb e 13) ∙ sym (left-refused e work l)
     where
-      go : (t : Bool) → front (bytesOf (pick t numbers (zeroed numbers))) work ≡ pick t work (zeroedBytes work)
+      go : (t : Bool) → front (workBytesOf (pick t numbers (zeroed numbers))) work ≡ pick t work (zeroedBytes work)
       go true = same-out
       go false = zero-out
 
   numbers-lent : 16384 ≤ length numbers
   numbers-lent = omega (arith, length-numbers 16384 work)
 
-  answer-out : (slip : List ℕ) (x : Answer) → Within x → front (bytesOf (pass.outcome x numbers slip .work)) work ≡ leftBytes (pass.outcome x numbers slip .number) work
+  answer-out : (slip : List ℕ) (x : Answer) → Within x → front (workBytesOf (pass.outcome x numbers slip .work)) work ≡ leftBytes (pass.outcome x numbers slip .number) work
   unfolding pass.outcome
   answer-out slip (finished bytes) l = zero-out ∙ sym (left-finished 0 work refl)
   answer-out slip (refused e) l = refused-out e (l .0)
 
-  copied : (slip : List ℕ) (a : Answer) → Within a → copiedOut (pass.outcome (pass.lentEnough numbers slip a) numbers slip) work ≡ outcome (lentEnough work slip a) work slip
+  copied : (slip : List ℕ) (a : Answer) → Within a → copiedOut (pass.outcome (pass.lentEnough numbers slip a) numbers slip) work ≡ bytesOutcome (bytesEnough work slip a) work slip
   copied slip a w =
       let l : Within (pass.lentEnough numbers slip a) = subst Within (sym (enough numbers work slip numbers-lent h a w)) (enough-within numbers work slip numbers-lent h a w) in
       in-bytes numbers work slip numbers-lent h a w (pass.outcome (pass.lentEnough numbers slip a) numbers slip) refl refl (answer-out slip (pass.lentEnough numbers slip a) l)
 
-  check-out : (r : Read Bool) → Drawn r → front (bytesOf (check.outcome r numbers .work)) work ≡ leftBytes (check.outcome r numbers .number) work
-  unfolding check.outcome
+  check-out : (r : Read Bool) → Drawn r → front (workBytesOf (check.checkOutcome r numbers .work)) work ≡ leftBytes (check.checkOutcome r numbers .number) work
+  unfolding check.checkOutcome
   check-out (got answer rest) l = zero-out ∙ sym (left-finished 0 work refl)
   check-out (refuse e) l = refused-out e (l .0)
 
@@ -131,5 +131,5 @@ module _ (work : List ℕ) (h : 65536 ≤ length work) (b : Below 256 work) wher
   check-copied sheet slip =
       let d = check-drawn sheet slip in
       let e = over-numbers sheet numbers work slip numbers-lent h d in
-      let l : front (bytesOf (checked sheet numbers slip .work)) work ≡ leftBytes (checked sheet numbers slip .number) work = rw e (check-out (checkOn sheet slip) d) in
+      let l : front (workBytesOf (checked sheet numbers slip .work)) work ≡ leftBytes (checked sheet numbers slip .number) work = rw e (check-out (checkOn sheet slip) d) in
       sym (check-in-bytes sheet numbers work slip numbers-lent h d (checked sheet numbers slip) refl refl l)

@@ -19,14 +19,14 @@ numbersOf zero bytes = []
 numbersOf (suc k) bytes = numberIn bytes ∷ numbersOf k (drop 4 bytes)
 
 -- the bytes of the numbers
-unfoldable pub bytesOf : List ℕ → List ℕ
-bytesOf [] = []
-bytesOf (x ∷ xs) = x % 256 ∷ x / 256 % 256 ∷ x / 65536 % 256 ∷ x / 16777216 % 256 ∷ bytesOf xs
+unfoldable pub workBytesOf : List ℕ → List ℕ
+workBytesOf [] = []
+workBytesOf (x ∷ xs) = x % 256 ∷ x / 256 % 256 ∷ x / 65536 % 256 ∷ x / 16777216 % 256 ∷ workBytesOf xs
 
 -- pass or reason over numbers, copied out
-abbrev pub copiedOut : pass.Outcome → List ℕ → layer.Outcome
-copiedOut o work = record { number = 65536 * o .number + o .length; work = front (bytesOf (o .work)) work; slip = o .slip }
+abbrev pub copiedOut : pass.Outcome → List ℕ → layer.BytesOutcome
+copiedOut o work = record { number = 65536 * o .number + o .length; work = front (workBytesOf (o .work)) work; slip = o .slip }
 
 -- check over numbers, copied out
-abbrev pub checkCopiedOut : check.Outcome → List ℕ → layerCheck.Outcome
-checkCopiedOut o work = record { number = 65536 * o .number + yesNumber (o .yes); work = front (bytesOf (o .work)) work }
+abbrev pub checkCopiedOut : check.CheckOutcome → List ℕ → layerCheck.CheckBytesOutcome
+checkCopiedOut o work = record { number = 65536 * o .number + yesNumber (o .yes); work = front (workBytesOf (o .work)) work }

@@ -25,9 +25,9 @@ fn is_pruned(header: Header, arcs: &[u32], marks: &[u8], work: &mut [u32], item:
     ensures { λ _. ⌜ drop 16384 (now (work .exit)) ≡ drop 16384 (now (work .entry)) ⌝ }
 {
     let mut rows = [0u32; TWO_ROWS];
-    item_fits::fill_rows(header, arcs, marks, &mut rows);
+    item_fits::fill_end_rows(header, arcs, marks, &mut rows);
     let mut goals = [0usize; ROW_LENGTH];
-    let verdict = pass_verdict::judge(header, arcs, marks, &rows, &mut goals, work);
+    let verdict = pass_verdict::find_verdict(header, arcs, marks, &rows, &mut goals, work);
     if verdict.number != 0 {
         return false;
     }
@@ -65,7 +65,7 @@ fn explain_item(
     let goals = [item; 1];
     let mut list = [0u32; pass::ITEMS];
     pass::ready_rows(header, arcs, marks, STRUCK, &goals, work);
-    let n = pass::list_reasons(header, arcs, marks, &goals, work, &mut list);
+    let n = pass::list_for_sheet(header, arcs, marks, &goals, work, &mut list);
     Answer {
         number: 0,
         length: slip_writer::write_slip(slip, STRUCK, &goals, &list[..n]),
@@ -91,7 +91,7 @@ pub fn reason(sheet: &[u8], work: &mut [u32], slip: &mut [u8], item: u32) -> Ans
     let mut arcs = [0u32; pass::ARC_NUMBERS];
     let mut marks = [0u8; pass::ITEMS];
     let header = match sheet_reader::read(sheet, &mut arcs, &mut marks) {
-        SheetRead::Taken(header) => header,
+        SheetRead::Got(header) => header,
         SheetRead::Refused(why) => return Answer {
             number: why,
             length: 0,

@@ -16,7 +16,7 @@ use Rattle.walks.proofs.Join.{meets-none}
 use Rattle.walks.proofs.LeastLaw.{Upto, is-least, walk-fit}
 use Rattle.rows.specs.Held.{missing}
 use Rattle.rows.specs.Net.{Net, netOf, graph, closed, count, arcCount, tailIn, headIn, weightIn, tailAt, headAt, weightAt, Proper, Open, Packed}
-use Rattle.rows.specs.Rows.{RowIs, Way, Sound, Good, Tried, Settled}
+use Rattle.rows.specs.Rows.{RowIs, Way, Sound, RowGood, Tried, Settled}
 use Rattle.rows.proofs.HeldLaws.{Held, low, high, holds, Above}
 use Rattle.rows.proofs.OpenLaws.{sound-opens, row-sound}
 use Rattle.rows.proofs.RowLaws.{way-more, row-is}
@@ -67,7 +67,7 @@ module _ (n : ℕ) (xs marks : List ℕ) (l : ℕ) (p : Proper (netOf n xs marks
       sound : Sound then cap s d
       sound = sound-opens n xs marks (set marks (n + l) 0) cap s d (opens marks (n + l)) (row-sound now cap s d small R)
 
-      good : Good then cap s d
+      good : RowGood then cap s d
       good = record {
         sound = sound .sound;
         range = sound .range;

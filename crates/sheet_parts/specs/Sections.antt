@@ -6,14 +6,14 @@ use Rattle.varint.specs.Varint.{Read, got, refuse}
 use Rattle.walks.specs.Graph.{Arc}
 use Rattle.sheet.specs.declared.Header.{Header}
 use Rattle.sheet_parts.specs.declared.HeaderRead.{HeaderRead}
-use Rattle.sheet_parts.specs.declared.HeaderRead.the-variants.{Five, Fault}
+use Rattle.sheet_parts.specs.declared.HeaderRead.the-variants.{Got as HeaderGot, Refused as HeaderRefused}
 use Rattle.sheet_parts.specs.declared.ArcRead.{ArcRead}
-use Rattle.sheet_parts.specs.declared.ArcRead.the-variants.{Found, Not}
+use Rattle.sheet_parts.specs.declared.ArcRead.the-variants.{Got as ArcGot, Refused as ArcRefused}
 
 -- the five numbers: the header with the bytes after it, or the refusal
 abbrev pub headerIn : List ℕ → HeaderRead → Read Header
-headerIn s (Five h next) = got h (drop next s)
-headerIn s (Fault e) = refuse e
+headerIn s (HeaderGot h next) = got h (drop next s)
+headerIn s (HeaderRefused e) = refuse e
 
 -- what a header that was read keeps to
 pub record Fits (s : List ℕ) (h : Header) (next : ℕ) : Type 0 where
@@ -26,10 +26,10 @@ pub record Fits (s : List ℕ) (h : Header) (next : ℕ) : Type 0 where
   pub inside : next ≤ length s
 
 abbrev pub HeaderFits : List ℕ → HeaderRead → Type 0
-HeaderFits s (Five h next) = Fits s h next
-HeaderFits s (Fault e) = Unit {0}
+HeaderFits s (HeaderGot h next) = Fits s h next
+HeaderFits s (HeaderRefused e) = Unit {0}
 
 -- an arc: the value with the bytes after it, or the refusal
 abbrev pub arcOf : List ℕ → ArcRead → Read Arc
-arcOf s (Found t h w next) = got (record { tail = t; head = h; weight = w }) (drop next s)
-arcOf s (Not e) = refuse e
+arcOf s (ArcGot t h w next) = got (record { tail = t; head = h; weight = w }) (drop next s)
+arcOf s (ArcRefused e) = refuse e

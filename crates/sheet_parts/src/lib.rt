@@ -9,9 +9,9 @@ ghost use Rattle.sheet.specs.Reader.{headerSource, readHeader, readArc};
 ghost use Rattle.numbers.specs.Answer.{sectionOf};
 ghost use Rattle.numbers.specs.Begun.{begun};
 ghost use Rattle.sheet_parts.specs.Sections.{headerIn, HeaderFits, arcOf};
-use numbers::Section;
+use numbers::SectionRead;
 use sheet::Header;
-use sheet_values::Judged;
+use sheet_values::ValueRead;
 
 const NODES_LEAST: u32 = 2;
 
@@ -25,8 +25,8 @@ const MINUTES_END: u32 = 65536;
 
 // The five numbers and the position after them, or the refusal.
 pub enum HeaderRead {
-    Five(Header, usize),
-    Fault(u32),
+    Got(Header, usize),
+    Refused(u32),
 }
 
 // A number that was judged fine, and the position after it.
@@ -42,24 +42,24 @@ fn header_ends(sheet: &[u8], at: usize, nodes: u32, arcs: u32) -> HeaderRead
     ensures { λ r. ⌜ HeaderFits (now (sheet .entry)) r ⌝ }
 {
     let source = match sheet_values::judged_at(sheet, at, nodes, 7) {
-        Judged::Fine(x, next) => Field {
+        ValueRead::Got(x, next) => Field {
             value: x,
             next: next,
         },
-        Judged::Wrong(why) => return HeaderRead::Fault(why),
+        ValueRead::Refused(why) => return HeaderRead::Refused(why),
     };
     let target = match sheet_values::judged_at(sheet, source.next, nodes, 7) {
-        Judged::Fine(x, next) => Field {
+        ValueRead::Got(x, next) => Field {
             value: x,
             next: next,
         },
-        Judged::Wrong(why) => return HeaderRead::Fault(why),
+        ValueRead::Refused(why) => return HeaderRead::Refused(why),
     };
     if target.value == source.value {
-        return HeaderRead::Fault(7);
+        return HeaderRead::Refused(7);
     }
     match sheet_values::judged_at(sheet, target.next, LIMIT_END, 8) {
-        Judged::Fine(limit, next) => {
+        ValueRead::Got(limit, next) => {
             let header = Header {
                 nodes: nodes as usize,
                 arcs: arcs as usize,
@@ -67,9 +67,9 @@ fn header_ends(sheet: &[u8], at: usize, nodes: u32, arcs: u32) -> HeaderRead
                 target: target.value as usize,
                 limit: limit,
             };
-            HeaderRead::Five(header, next)
+            HeaderRead::Got(header, next)
         }
-        Judged::Wrong(why) => HeaderRead::Fault(why),
+        ValueRead::Refused(why) => HeaderRead::Refused(why),
     }
 }
 
@@ -79,25 +79,25 @@ pub fn header_of(sheet: &[u8]) -> HeaderRead
     ensures { λ r. ⌜ HeaderFits (now (sheet .entry)) r ⌝ }
 {
     let nodes = match sheet_values::judged_at(sheet, 0, NODES_END, 5) {
-        Judged::Fine(x, next) => Field {
+        ValueRead::Got(x, next) => Field {
             value: x,
             next: next,
         },
-        Judged::Wrong(why) => return HeaderRead::Fault(why),
+        ValueRead::Refused(why) => return HeaderRead::Refused(why),
     };
     if nodes.value < NODES_LEAST {
-        return HeaderRead::Fault(5);
+        return HeaderRead::Refused(5);
     }
     match sheet_values::judged_at(sheet, nodes.next, ARCS_END, 6) {
-        Judged::Fine(arcs, next) => header_ends(sheet, next, nodes.value, arcs),
-        Judged::Wrong(why) => HeaderRead::Fault(why),
+        ValueRead::Got(arcs, next) => header_ends(sheet, next, nodes.value, arcs),
+        ValueRead::Refused(why) => HeaderRead::Refused(why),
     }
 }
 
 // An arc of the sheet: tail, head, minutes and the position after it, or the refusal.
 pub enum ArcRead {
-    Found(u32, u32, u32, usize),
-    Not(u32),
+    Got(u32, u32, u32, usize),
+    Refused(u32),
 }
 
 // Reads the arc at `at` of a graph of `nodes` nodes.
@@ -105,21 +105,21 @@ fn arc_at(sheet: &[u8], at: usize, nodes: u32) -> ArcRead
     ensures { λ r. ⌜ arcOf (now (sheet .entry)) r ≡ readArc nodes (drop at (now (sheet .entry))) ⌝ }
 {
     match sheet_values::judged_at(sheet, at, nodes, 9) {
-        Judged::Wrong(why) => ArcRead::Not(why),
-        Judged::Fine(tail, after_tail) => match sheet_values::judged_at(
+        ValueRead::Refused(why) => ArcRead::Refused(why),
+        ValueRead::Got(tail, after_tail) => match sheet_values::judged_at(
             sheet,
             after_tail,
             nodes,
             9,
         ) {
-            Judged::Wrong(why) => ArcRead::Not(why),
-            Judged::Fine(head, after_head) => {
+            ValueRead::Refused(why) => ArcRead::Refused(why),
+            ValueRead::Got(head, after_head) => {
                 if head == tail {
-                    return ArcRead::Not(9);
+                    return ArcRead::Refused(9);
                 }
                 match sheet_values::judged_at(sheet, after_head, MINUTES_END, 10) {
-                    Judged::Wrong(why) => ArcRead::Not(why),
-                    Judged::Fine(minutes, next) => ArcRead::Found(tail, head, minutes, next),
+                    ValueRead::Refused(why) => ArcRead::Refused(why),
+                    ValueRead::Got(minutes, next) => ArcRead::Got(tail, head, minutes, next),
                 }
             }
         },
@@ -127,7 +127,7 @@ fn arc_at(sheet: &[u8], at: usize, nodes: u32) -> ArcRead
 }
 
 // Reads the arcs at the front of `section` and stores tail, head and minutes of each over the front of `arcs`.
-pub fn arcs_in(section: &[u8], nodes: u32, count: usize, arcs: &mut [u32]) -> Section
+pub fn arcs_in(section: &[u8], nodes: u32, count: usize, arcs: &mut [u32]) -> SectionRead
     requires { ⌜ 3 * count ≤ length (now arcs) ⌝ }
     ensures { λ r. ⌜ sectionOf (now (section .entry)) (begun (readArc nodes) count (now (section .entry))) r ≡ several (readArc nodes) count (now (section .entry)) ⌝ }
     ensures { λ _. ⌜ now (arcs .exit) ≡ front (flat (begun (readArc nodes) count (now (section .entry)))) (now (arcs .entry)) ⌝ }
@@ -136,10 +136,10 @@ pub fn arcs_in(section: &[u8], nodes: u32, count: usize, arcs: &mut [u32]) -> Se
     let mut j: usize = 0;
     while j < count {
         match arc_at(section, at, nodes) {
-            ArcRead::Not(why) => {
-                return Section::Stopped(why);
+            ArcRead::Refused(why) => {
+                return SectionRead::Refused(why);
             }
-            ArcRead::Found(tail, head, minutes, next) => {
+            ArcRead::Got(tail, head, minutes, next) => {
                 arcs[3 * j] = tail;
                 arcs[3 * j + 1] = head;
                 arcs[3 * j + 2] = minutes;
@@ -148,5 +148,5 @@ pub fn arcs_in(section: &[u8], nodes: u32, count: usize, arcs: &mut [u32]) -> Se
         }
         j += 1;
     }
-    Section::Ended(at)
+    SectionRead::Got(at)
 }

@@ -6,7 +6,7 @@ use native.Mathlib.Omega.{arith}
 use lib.ListN.{length, take}
 use lib.Seq.{take-at}
 use Rattle.sheet.specs.declared.Header.{Header}
-use Rattle.sheet_reader.specs.declared.SheetRead.the-variants.{Taken as Took, Refused}
+use Rattle.sheet_reader.specs.declared.SheetRead.the-variants.{Got, Refused}
 use Rattle.lists.specs.Lists.{front}
 use Rattle.sheet_reader.proofs.TakenLaws.{taken-begun}
 use Rattle.sheet_required.specs.Held.{sheetOf, Whole}
@@ -62,12 +62,12 @@ module _ (S : Sheet) (g : Good S) where
   }
 
 -- what a read that took the sheet leaves in front of the arrays
-pub loaded : (sheet d e arcs marks : List ℕ) (h : Header) → Took h ≡ answered (taken sheet) → arcs ≡ front (flat (arcsBegun sheet)) d → marks ≡ front (marksBegun sheet) e
+pub loaded : (sheet d e arcs marks : List ℕ) (h : Header) → Got h ≡ answered (taken sheet) → arcs ≡ front (flat (arcsBegun sheet)) d → marks ≡ front (marksBegun sheet) e
     → Loaded sheet h (take (3 * h .arcs) arcs) (take (h .nodes + h .arcs) marks)
 unfolding answered headerOf
 loaded sheet d e arcs marks h q a m = go (taken sheet) refl q
   where
-    go : (r : Read Sheet) → taken sheet ≡ r → Took h ≡ answered r → Loaded sheet h (take (3 * h .arcs) arcs) (take (h .nodes + h .arcs) marks)
+    go : (r : Read Sheet) → taken sheet ≡ r → Got h ≡ answered r → Loaded sheet h (take (3 * h .arcs) arcs) (take (h .nodes + h .arcs) marks)
     go (refuse w) p z = absurd (let y : _≡_ {A = ℕ} 0 1 = cc in omega arith)
     go (got S rest) p z =
         let hs : h ≡ headerOf S = took-is (headerOf S) z in
@@ -78,7 +78,7 @@ loaded sheet d e arcs marks h q a m = go (taken sheet) refl q
         let y : take (h .nodes + h .arcs) marks ≡ S .marks = rw (m, hs, b .1) (take-at (S .marks) _ (itemCount (S .graph)) (g .size)) in
         rw (x, y, hs) (record { read = S; took = p ∙ ap (got S) (T .1); same = same-sheet S; whole = sheet-whole S g (T .0 .few) })
       where
-        took-is : (k : Header) → Took h ≡ Took k → h ≡ k
+        took-is : (k : Header) → Got h ≡ Got k → h ≡ k
         took-is k e = cc
 
 -- a read that refused the sheet

@@ -14,7 +14,7 @@ use Rattle.walks.specs.Flat.{flat}
 use Rattle.walks.proofs.FlatLaws.{arcs-flat, length-flat}
 use Rattle.sheet.specs.declared.Header.{Header}
 use Rattle.sheet_reader.specs.declared.SheetRead.{SheetRead}
-use Rattle.sheet_reader.specs.declared.SheetRead.the-variants.{Taken, Refused}
+use Rattle.sheet_reader.specs.declared.SheetRead.the-variants.{Got, Refused}
 use Rattle.sheet.specs.Sheet.{Sheet, required}
 use Rattle.sheet.specs.Reader.{readArc, readMark, readArcs, readMarks, complete, readSheet, taken, readHeader}
 use Rattle.numbers.specs.Begun.{ahead, begun}
@@ -69,11 +69,11 @@ module _ (h : Header) (bs : List ℕ) where
         unfolding answered
         too-many m = sym (ap answered (all-read ∙ judged-whole m))
 
-        pub all-taken : true ≡ leb (length (required (whole ms))) 8 → Taken h ≡ answered (after (readArcs h bs) complete)
+        pub all-taken : true ≡ leb (length (required (whole ms))) 8 → Got h ≡ answered (after (readArcs h bs) complete)
         unfolding answered headerOf
         all-taken m =
             let q : headerOf (whole ms) ≡ h = rw arc-count in
-            sym (ap answered (all-read ∙ judged-whole m) ∙ ap Taken q)
+            sym (ap answered (all-read ∙ judged-whole m) ∙ ap Got q)
 
       -- the sheet that stands in the arrays
       pub sheet-held :

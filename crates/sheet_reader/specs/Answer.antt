@@ -9,7 +9,7 @@ use Rattle.sheet.specs.Reader.{readArc, readMark, readHeader}
 use Rattle.sheet.specs.declared.Header.{Header}
 use Rattle.numbers.specs.Begun.{ahead, begun}
 use Rattle.sheet_reader.specs.declared.SheetRead.{SheetRead}
-use Rattle.sheet_reader.specs.declared.SheetRead.the-variants.{Taken, Refused}
+use Rattle.sheet_reader.specs.declared.SheetRead.the-variants.{Got, Refused}
 
 -- the whole sheet: its five numbers, or the refusal
 unfoldable pub headerOf : Sheet → Header
@@ -17,7 +17,7 @@ headerOf S =
     record { nodes = S .graph .nodes; arcs = length (S .graph .arcs); source = S .source; target = S .target; limit = S .limit }
 
 unfoldable pub answered : Read Sheet → SheetRead
-answered (got S rest) = Taken (headerOf S)
+answered (got S rest) = Got (headerOf S)
 answered (refuse e) = Refused e
 
 -- the arcs and the marks that were read before the first fault: these a read leaves over the fronts of the arrays; all of them where there was none

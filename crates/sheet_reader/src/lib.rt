@@ -10,7 +10,7 @@ ghost use Rattle.sheet.specs.Sheet.{required};
 ghost use Rattle.sheet.specs.Reader.{readArcs, complete, taken};
 ghost use Rattle.sheet_required.specs.Held.{sheetOf};
 ghost use Rattle.sheet_reader.specs.Answer.{arcsBehind, marksBehind, answered, arcsBegun, marksBegun};
-use numbers::Section;
+use numbers::SectionRead;
 use sheet::Header;
 use sheet_parts::HeaderRead;
 
@@ -30,7 +30,7 @@ fn few_required(header: Header, arcs: &[u32], marks: &[u8]) -> bool
 
 // A sheet that was taken, by the five numbers in front of it, or the refusal, 3 to 13.
 pub enum SheetRead {
-    Taken(Header),
+    Got(Header),
     Refused(u32),
 }
 
@@ -44,18 +44,18 @@ fn read_behind(header: Header, section: &[u8], arcs: &mut [u32], marks: &mut [u8
     let nodes = header.nodes;
     let count = header.arcs;
     let end = match sheet_parts::arcs_in(section, nodes as u32, count, arcs) {
-        Section::Ended(at) => at,
-        Section::Stopped(why) => return SheetRead::Refused(why),
+        SectionRead::Got(at) => at,
+        SectionRead::Refused(why) => return SheetRead::Refused(why),
     };
     let last = match sheet_values::marks_in(section, end, nodes + count, marks) {
-        Section::Ended(at) => at,
-        Section::Stopped(why) => return SheetRead::Refused(why),
+        SectionRead::Got(at) => at,
+        SectionRead::Refused(why) => return SheetRead::Refused(why),
     };
     if last < section.len() {
         return SheetRead::Refused(12);
     }
     if few_required(header, arcs, marks) {
-        return SheetRead::Taken(header);
+        return SheetRead::Got(header);
     }
     SheetRead::Refused(13)
 }
@@ -69,7 +69,7 @@ pub fn read(sheet: &[u8], arcs: &mut [u32], marks: &mut [u8]) -> SheetRead
     ensures { λ _. ⌜ now (marks .exit) ≡ front (marksBegun (now (sheet .entry))) (now (marks .entry)) ⌝ }
 {
     match sheet_parts::header_of(sheet) {
-        HeaderRead::Five(header, at) => read_behind(header, &sheet[at..], arcs, marks),
-        HeaderRead::Fault(why) => SheetRead::Refused(why),
+        HeaderRead::Got(header, at) => read_behind(header, &sheet[at..], arcs, marks),
+        HeaderRead::Refused(why) => SheetRead::Refused(why),
     }
 }

@@ -9,37 +9,37 @@ ghost use Rattle.sheet.specs.Reader.{readMark};
 ghost use Rattle.numbers.specs.Answer.{sectionOf};
 ghost use Rattle.numbers.specs.Begun.{begun};
 ghost use Rattle.sheet_values.specs.Values.{judgedOf, nextOf};
-use numbers::Section;
+use numbers::SectionRead;
 use varint::Number;
 
 const MARKS_END: u32 = 3;
 
 // A number of the sheet that was judged: its value and the position after it, or the refusal.
-pub enum Judged {
-    Fine(u32, usize),
-    Wrong(u32),
+pub enum ValueRead {
+    Got(u32, usize),
+    Refused(u32),
 }
 
 // Reads the number at `at`, which is to be below `end`; otherwise the refusal is `why`.
-pub fn judged_at(sheet: &[u8], at: usize, end: u32, why: u32) -> Judged
+pub fn judged_at(sheet: &[u8], at: usize, end: u32, why: u32) -> ValueRead
     ensures { λ r. ⌜ judgedOf (now (sheet .entry)) r ≡ number why (λ x. ltb x end) (drop at (now (sheet .entry))) ⌝ }
     ensures { λ r. ⌜ nextOf r ≤ length (now (sheet .entry)) ⌝ }
 {
     match varint::number_at(sheet, at) {
         Number::Got(x, next) => {
             if x < end {
-                Judged::Fine(x, next)
+                ValueRead::Got(x, next)
             } else {
-                Judged::Wrong(why)
+                ValueRead::Refused(why)
             }
         }
-        Number::Ends => Judged::Wrong(3),
-        Number::Overlong => Judged::Wrong(4),
+        Number::Ends => ValueRead::Refused(3),
+        Number::Overlong => ValueRead::Refused(4),
     }
 }
 
 // Reads the marks that stand from `from` on and stores each over the front of `marks`.
-pub fn marks_in(section: &[u8], from: usize, count: usize, marks: &mut [u8]) -> Section
+pub fn marks_in(section: &[u8], from: usize, count: usize, marks: &mut [u8]) -> SectionRead
     requires { ⌜ count ≤ length (now marks) ⌝ }
     ensures { λ r. ⌜ sectionOf (now (section .entry)) (begun readMark count (drop from (now (section .entry)))) r ≡ several readMark count (drop from (now (section .entry))) ⌝ }
     ensures { λ _. ⌜ now (marks .exit) ≡ front (begun readMark count (drop from (now (section .entry)))) (now (marks .entry)) ⌝ }
@@ -48,15 +48,15 @@ pub fn marks_in(section: &[u8], from: usize, count: usize, marks: &mut [u8]) -> 
     let mut j: usize = 0;
     while j < count {
         match judged_at(section, at, MARKS_END, 11) {
-            Judged::Wrong(why) => {
-                return Section::Stopped(why);
+            ValueRead::Refused(why) => {
+                return SectionRead::Refused(why);
             }
-            Judged::Fine(mark, next) => {
+            ValueRead::Got(mark, next) => {
                 marks[j] = mark as u8;
                 at = next;
             }
         }
         j += 1;
     }
-    Section::Ended(at)
+    SectionRead::Got(at)
 }

@@ -13,7 +13,7 @@ use Rattle.sheet.specs.Sheet.{Sheet}
 use Rattle.sheet.specs.Reader.{taken}
 use Rattle.sheet.specs.ArcView.{restOf, past, bytesOf, forArc, arcView, placeOf}
 use Rattle.sheet.specs.declared.Header.{Header}
-use Rattle.sheet_reader.specs.declared.SheetRead.the-variants.{Taken, Refused}
+use Rattle.sheet_reader.specs.declared.SheetRead.the-variants.{Got, Refused}
 use Rattle.sheet_reader.specs.Answer.{headerOf, answered}
 
 -- what is left after several values
@@ -104,7 +104,7 @@ module _ {A : Type 0} (l : ℕ) (x y : A) where
   not-taken (got S rest) q = absurd (let z : _≡_ {A = ℕ} 0 1 = cc in omega arith)
   not-taken (refuse e) q = refl
 
-  taken-has : (r : Read Sheet) {h : Header} → Taken h ≡ answered r → forArc r l x y ≡ pick (ltb l (h .arcs)) x y
+  taken-has : (r : Read Sheet) {h : Header} → Got h ≡ answered r → forArc r l x y ≡ pick (ltb l (h .arcs)) x y
   unfolding answered forArc headerOf
   taken-has (got S rest) {h} q =
       let z : h ≡ headerOf S = cc in
@@ -112,7 +112,7 @@ module _ {A : Type 0} (l : ℕ) (x y : A) where
       ap (λ (i : ℕ). pick (ltb l i) x y) (sym n)
   taken-has (refuse e) q = absurd (let z : _≡_ {A = ℕ} 0 1 = cc in omega arith)
 
-  module _ (r : Read Sheet) {h : Header} (q : Taken h ≡ answered r) where
+  module _ (r : Read Sheet) {h : Header} (q : Got h ≡ answered r) where
     arc-there : l < h .arcs → forArc r l x y ≡ x
     arc-there n = taken-has r q ∙ ap (λ (t : Bool). pick t x y) (lt-ltb l (h .arcs) n)
 
@@ -131,7 +131,7 @@ module _ (s : List ℕ) (l base : ℕ) where
   unfolding arcView placeOf
   view-refused q = here (not-taken l _ _ (taken s) q) (not-taken l _ _ (taken s) q)
 
-  module _ {h : Header} (q : Taken h ≡ answered (taken s)) where
+  module _ {h : Header} (q : Got h ≡ answered (taken s)) where
     pub view-none : h .arcs ≤ l → Here 0 []
     unfolding arcView placeOf
     view-none n = here (no-arc l _ _ (taken s) q n) (no-arc l _ _ (taken s) q n)

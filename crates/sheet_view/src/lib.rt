@@ -3,7 +3,7 @@ ghost use mathlib.Core.Path.{_≡_};
 ghost use Prim.Native.Nat.{_+_, _*_, _≤_};
 ghost use lib.ListN.{length, drop};
 ghost use Rattle.sheet.specs.ArcView.{past, arcView, placeOf};
-use numbers::Section;
+use numbers::SectionRead;
 use sheet_reader::SheetRead;
 
 // How many numbers stand in a sheet's header, and for each arc.
@@ -17,8 +17,8 @@ fn past_numbers(sheet: &[u8], from: usize, count: usize) -> usize
     ensures { λ r. ⌜ (drop r (now (sheet .entry)) ≡ past count (drop from (now (sheet .entry)))) × (r ≤ length (now (sheet .entry))) ⌝ }
 {
     match numbers::skip_numbers(sheet, from, count) {
-        Section::Ended(next) => next,
-        Section::Stopped(_) => sheet.len(),
+        SectionRead::Got(next) => next,
+        SectionRead::Refused(_) => sheet.len(),
     }
 }
 
@@ -31,7 +31,7 @@ pub fn arc_view(sheet: &[u8], arc: u32) -> &[u8]
     let mut arcs = [0u32; 1536];
     let mut marks = [0u8; 576];
     let header = match sheet_reader::read(sheet, &mut arcs, &mut marks) {
-        SheetRead::Taken(header) => header,
+        SheetRead::Got(header) => header,
         SheetRead::Refused(_) => return &sheet[0..0],
     };
     let earlier = arc as usize;

@@ -7,9 +7,9 @@ use Rattle.varint.specs.Varint.{Read, got, refuse, readNumber, writeNumbers}
 use Rattle.numbers.specs.Begun.{begun}
 use Rattle.sheet.specs.Slip.{Slip, slipGoals, as17}
 use Rattle.slip_reader.specs.declared.ListRead.{ListRead}
-use Rattle.slip_reader.specs.declared.ListRead.the-variants.{Listed, Broken}
+use Rattle.slip_reader.specs.declared.ListRead.the-variants.{Got as ListGot, Refused as ListRefused}
 use Rattle.slip_reader.specs.declared.SlipRead.{SlipRead}
-use Rattle.slip_reader.specs.declared.SlipRead.the-variants.{Formed, Unformed}
+use Rattle.slip_reader.specs.declared.SlipRead.the-variants.{Got as SlipGot, Refused as SlipRefused}
 
 abbrev pub slipFrom : ℕ → List ℕ → List ℕ → Slip
 slipFrom first goals reasons = record { first = first; goals = goals; reasons = reasons }
@@ -23,13 +23,13 @@ abbrev pub valuesAt : List ℕ → ℕ → ℕ → List ℕ
 valuesAt s count at = begun readNumber count (drop at s)
 
 abbrev pub listOf : List ℕ → ListRead → Read (List ℕ)
-listOf s (Listed count from next) = got (valuesAt s count from) (drop next s)
-listOf s (Broken e) = refuse e
+listOf s (ListGot count from next) = got (valuesAt s count from) (drop next s)
+listOf s (ListRefused e) = refuse e
 
 -- so many numbers as it is said are there
 abbrev pub ListCount : List ℕ → ListRead → Type 0
-ListCount s (Listed count from next) = length (valuesAt s count from) ≡ count
-ListCount s (Broken e) = Unit {0}
+ListCount s (ListGot count from next) = length (valuesAt s count from) ≡ count
+ListCount s (ListRefused e) = Unit {0}
 
 -- goals and reasons, every fault a 17
 unfoldable pub listsOf : ℕ → List ℕ → Read Slip
@@ -37,10 +37,10 @@ listsOf v bs = as17 (slipGoals v bs)
 
 -- a well written slip, or the refusal 17
 abbrev pub slipOf : List ℕ → SlipRead → Read Slip
-slipOf s (Formed f) = got (slipFrom (f .first) (valuesAt s (f .goals) (f .«goals_at»)) (valuesAt s (f .reasons) (f .«reasons_at»))) []
-slipOf s Unformed = refuse 17
+slipOf s (SlipGot f) = got (slipFrom (f .first) (valuesAt s (f .goals) (f .«goals_at»)) (valuesAt s (f .reasons) (f .«reasons_at»))) []
+slipOf s SlipRefused = refuse 17
 
 -- so many goals and reasons as it is said are there
 abbrev pub SlipCounts : List ℕ → SlipRead → Type 0
-SlipCounts s (Formed f) = (length (valuesAt s (f .goals) (f .«goals_at»)) ≡ f .goals) × (length (valuesAt s (f .reasons) (f .«reasons_at»)) ≡ f .reasons)
-SlipCounts s Unformed = Unit {0}
+SlipCounts s (SlipGot f) = (length (valuesAt s (f .goals) (f .«goals_at»)) ≡ f .goals) × (length (valuesAt s (f .reasons) (f .«reasons_at»)) ≡ f .reasons)
+SlipCounts s SlipRefused = Unit {0}

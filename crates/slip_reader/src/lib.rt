@@ -3,13 +3,13 @@ ghost use mathlib.Core.Path.{_≡_};
 ghost use lib.ListN.{drop};
 ghost use Rattle.sheet.specs.Slip.{readList, readSlip};
 ghost use Rattle.slip_reader.specs.Form.{listOf, ListCount, listsOf, slipOf, SlipCounts};
-use numbers::Section;
+use numbers::SectionRead;
 use varint::Number;
 
 // A list in a slip: its count, where its numbers stand and the position after them; or the fault in its writing.
 pub enum ListRead {
-    Listed(u32, usize, usize),
-    Broken(u32),
+    Got(u32, usize, usize),
+    Refused(u32),
 }
 
 // Judges the list at `at`: a count, and as many numbers.
@@ -19,11 +19,11 @@ fn list_at(slip: &[u8], at: usize) -> ListRead
 {
     match varint::number_at(slip, at) {
         Number::Got(count, from) => match numbers::skip_numbers(slip, from, count as usize) {
-            Section::Ended(next) => ListRead::Listed(count, from, next),
-            Section::Stopped(why) => ListRead::Broken(why),
+            SectionRead::Got(next) => ListRead::Got(count, from, next),
+            SectionRead::Refused(why) => ListRead::Refused(why),
         },
-        Number::Ends => ListRead::Broken(3),
-        Number::Overlong => ListRead::Broken(4),
+        Number::Ends => ListRead::Refused(3),
+        Number::Overlong => ListRead::Refused(4),
     }
 }
 
@@ -38,22 +38,22 @@ pub struct SlipForm {
 
 // A well written slip, or one that draws 17.
 pub enum SlipRead {
-    Formed(SlipForm),
-    Unformed,
+    Got(SlipForm),
+    Refused,
 }
 
 // Judges the goals and the reasons, which stand from `at` on.
-fn judge_lists(slip: &[u8], first: u32, at: usize) -> SlipRead
+fn read_lists(slip: &[u8], first: u32, at: usize) -> SlipRead
     ensures { λ r. ⌜ slipOf (now (slip .entry)) r ≡ listsOf first (drop at (now (slip .entry))) ⌝ }
     ensures { λ r. ⌜ SlipCounts (now (slip .entry)) r ⌝ }
 {
     match list_at(slip, at) {
-        ListRead::Listed(goals, goals_at, next) => match list_at(slip, next) {
-            ListRead::Listed(reasons, reasons_at, end) => {
+        ListRead::Got(goals, goals_at, next) => match list_at(slip, next) {
+            ListRead::Got(reasons, reasons_at, end) => {
                 if end < slip.len() {
-                    return SlipRead::Unformed;
+                    return SlipRead::Refused;
                 }
-                SlipRead::Formed(SlipForm {
+                SlipRead::Got(SlipForm {
                     first: first,
                     goals: goals,
                     goals_at: goals_at,
@@ -61,9 +61,9 @@ fn judge_lists(slip: &[u8], first: u32, at: usize) -> SlipRead
                     reasons_at: reasons_at,
                 })
             }
-            ListRead::Broken(_) => SlipRead::Unformed,
+            ListRead::Refused(_) => SlipRead::Refused,
         },
-        ListRead::Broken(_) => SlipRead::Unformed,
+        ListRead::Refused(_) => SlipRead::Refused,
     }
 }
 
@@ -75,14 +75,14 @@ pub fn judge_slip(slip: &[u8]) -> SlipRead
     match varint::number_at(slip, 0) {
         Number::Got(first, at) => {
             if first < 1 {
-                return SlipRead::Unformed;
+                return SlipRead::Refused;
             }
             if 4 < first {
-                return SlipRead::Unformed;
+                return SlipRead::Refused;
             }
-            judge_lists(slip, first, at)
+            read_lists(slip, first, at)
         }
-        Number::Ends => SlipRead::Unformed,
-        Number::Overlong => SlipRead::Unformed,
+        Number::Ends => SlipRead::Refused,
+        Number::Overlong => SlipRead::Refused,
     }
 }

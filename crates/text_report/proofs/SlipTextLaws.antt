@@ -22,7 +22,7 @@ use Rattle.sheet.specs.Slip.{Slip, slipBytes, readSlip}
 use Rattle.sheet.proofs.SheetLaws.{taken-got, taken-good}
 use Rattle.sheet.proofs.SlipLaws.{Small, slip-back}
 use Rattle.slip_reader.specs.declared.SlipForm.{SlipForm}
-use Rattle.slip_reader.specs.declared.SlipRead.the-variants.{Formed, Unformed}
+use Rattle.slip_reader.specs.declared.SlipRead.the-variants.{Got as SlipGot, Refused as SlipRefused}
 use Rattle.slip_reader.specs.Form.{slipFrom, valuesAt, slipOf, SlipCounts}
 use Rattle.slip_reader.proofs.FormLaws.{small-below}
 use Rattle.pass_rules.specs.Pass.{finished, answerOf, passOn, verdictIn, markIn}
@@ -129,7 +129,7 @@ blame-is sheet slip e z = let P = passed-slip sheet slip e in go (P .read) slip 
 -- what the slip's reader gives of it
 pub record Told (sheet slip : List ℕ) (f : SlipForm) : Type 0 where
   pub first : f .first < 5
-  pub counts : SlipCounts slip (Formed f)
+  pub counts : SlipCounts slip (SlipGot f)
   pub few : f .goals ≤ 8
   pub many : f .reasons ≤ 576
   pub goals : small (valuesAt slip (f .goals) (f .«goals_at»)) ≡ true
@@ -138,10 +138,10 @@ pub record Told (sheet slip : List ℕ) (f : SlipForm) : Type 0 where
   pub room : length (blameText (slipFrom (f .first) (valuesAt slip (f .goals) (f .«goals_at»)) (valuesAt slip (f .reasons) (f .«reasons_at»)))) ≤ 8192
 
 module _ (sheet slip : List ℕ) (e : passOn sheet ≡ finished slip) (z : verdictIn slip ≡ 0 → ⊥) where
-  pub never-unformed : slipOf slip Unformed ≡ readSlip slip → ⊥
+  pub never-unformed : slipOf slip SlipRefused ≡ readSlip slip → ⊥
   never-unformed u = let B = blame-is sheet slip e z in let y : _≡_ {A = ℕ} 0 1 = cc (B .says) in omega arith
 
-  pub told : (f : SlipForm) → slipOf slip (Formed f) ≡ readSlip slip → SlipCounts slip (Formed f) → Told sheet slip f
+  pub told : (f : SlipForm) → slipOf slip (SlipGot f) ≡ readSlip slip → SlipCounts slip (SlipGot f) → Told sheet slip f
   told f u n = go (blame-is sheet slip e z)
     where
       go : Blame sheet slip → Told sheet slip f

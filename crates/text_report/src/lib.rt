@@ -19,14 +19,14 @@ const GOALS: usize = 8;
 const SLIP_BYTES: usize = 1200;
 
 // Writes the text of a slip of verdict 0, with the marks read from the sheet.
-fn write_stands(sheet: &[u8], slip: &[u8], out: &mut [u8]) -> usize
+fn put_stands_text(sheet: &[u8], slip: &[u8], out: &mut [u8]) -> usize
     requires { ⌜ (passOn (now sheet) ≡ finished (now slip)) × (verdictIn (now slip) ≡ 0) × (8192 ≤ length (now out)) ⌝ }
     ensures { λ r. ⌜ (r ≡ length (slipText (now (sheet .entry)) (now (slip .entry)))) × (now (out .exit) ≡ front (slipText (now (sheet .entry)) (now (slip .entry))) (now (out .entry))) ⌝ }
 {
     let mut arcs = [0u32; ARC_NUMBERS];
     let mut marks = [0u8; ITEMS];
     let header = match sheet_reader::read(sheet, &mut arcs, &mut marks) {
-        SheetRead::Taken(header) => header,
+        SheetRead::Got(header) => header,
         SheetRead::Refused(_) => return 0,
     };
     let items = header.nodes + header.arcs;
@@ -36,13 +36,13 @@ fn write_stands(sheet: &[u8], slip: &[u8], out: &mut [u8]) -> usize
 }
 
 // Writes the text of a slip that blames closures.
-fn write_blame(sheet: &[u8], slip: &[u8], out: &mut [u8]) -> usize
+fn put_blame_text(sheet: &[u8], slip: &[u8], out: &mut [u8]) -> usize
     requires { ⌜ (passOn (now sheet) ≡ finished (now slip)) × (0 < verdictIn (now slip)) × (8192 ≤ length (now out)) ⌝ }
     ensures { λ r. ⌜ (r ≡ length (slipText (now (sheet .entry)) (now (slip .entry)))) × (now (out .exit) ≡ front (slipText (now (sheet .entry)) (now (slip .entry))) (now (out .entry))) ⌝ }
 {
     let form = match slip_reader::judge_slip(slip) {
-        SlipRead::Formed(form) => form,
-        SlipRead::Unformed => return 0,
+        SlipRead::Got(form) => form,
+        SlipRead::Refused => return 0,
     };
     let goal_count = form.goals as usize;
     let reason_count = form.reasons as usize;
@@ -59,14 +59,14 @@ fn write_blame(sheet: &[u8], slip: &[u8], out: &mut [u8]) -> usize
 }
 
 // Writes the text of a finished pass by its slip.
-fn write_slip(sheet: &[u8], slip: &[u8], out: &mut [u8]) -> usize
+fn put_slip_text(sheet: &[u8], slip: &[u8], out: &mut [u8]) -> usize
     requires { ⌜ (passOn (now sheet) ≡ finished (now slip)) × (8192 ≤ length (now out)) ⌝ }
     ensures { λ r. ⌜ (r ≡ length (slipText (now (sheet .entry)) (now (slip .entry)))) × (now (out .exit) ≡ front (slipText (now (sheet .entry)) (now (slip .entry))) (now (out .entry))) ⌝ }
 {
     if slip[0] == 0 {
-        return write_stands(sheet, slip, out);
+        return put_stands_text(sheet, slip, out);
     }
-    write_blame(sheet, slip, out)
+    put_blame_text(sheet, slip, out)
 }
 
 // Runs the pass on a sheet, writes what it answers over the front of `out` and gives the text's length. The last clause follows from the first two; it
@@ -85,5 +85,5 @@ pub fn report(sheet: &[u8], work: &mut [u32], out: &mut [u8]) -> usize
         return text_lines::put_line(out, b"refused", &number);
     }
     let length = answer.length;
-    write_slip(sheet, &slip[..length], out)
+    put_slip_text(sheet, &slip[..length], out)
 }

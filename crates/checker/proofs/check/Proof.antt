@@ -6,7 +6,7 @@ use Rattle.sheet.specs.Slip.{readSlip}
 use Rattle.varint.specs.Varint.{after}
 use Rattle.sheet_reader.proofs.LoadedLaws.{loaded, unloaded}
 use Rattle.check_rules.specs.Check.{judgedOn}
-use Rattle.check_answer.specs.Answer.{answerOf}
+use Rattle.check_answer.specs.Answer.{checkAnswerOf}
 use Rattle.checker.proofs.CheckedLaws.{checked-short, checked-refused, checked-slip}
 use borrow.Author.Needs.{needs}
 use Rattle.checker.proofs.check.Statement.{statement}
@@ -66,8 +66,8 @@ array-share-prefix-arcs c =
     let l = loaded (s .args .sheet .now) _ _ (q .last .1 .0) (q .last .1 .1 .0) (h .0 .0) (sym (h .1) ∙ q .ensures .0) (q .ensures .1 .0) (q .ensures .1 .1) in
     omega (arith, l .whole .few, q .kept .1 .0)
 
-slice-aggregate-judge : tie.Need-slice-aggregate-judge
-slice-aggregate-judge c =
+slice-aggregate-answer-slip : tie.Need-slice-aggregate-answer-slip
+slice-aggregate-answer-slip c =
     let s = c .before .before .before .before .before .before .before .before .before .before .before .before .before .before .before in
     let q = c .before .before .before .before .before .before .before .before .read in
     let h = c .before .before .before .before .header .given in
@@ -82,16 +82,16 @@ array-share-prefix-marks c =
     let l = loaded (s .args .sheet .now) _ _ (q .last .1 .0) (q .last .1 .1 .0) (h .0 .0) (sym (h .1) ∙ q .ensures .0) (q .ensures .1 .0) (q .ensures .1 .1) in
     omega (arith, l .whole .few, l .whole .proper .few, q .kept .1 .1 .0)
 
-slice-aggregate-judge-2 : tie.Need-slice-aggregate-judge-2
-slice-aggregate-judge-2 c =
+slice-aggregate-answer-slip-2 : tie.Need-slice-aggregate-answer-slip-2
+slice-aggregate-answer-slip-2 c =
     let s = c .before .before .before .before .before .before .before .before .before .before .before .before .before .before .before .before in
     let q = c .before .before .before .before .before .before .before .before .before .read in
     let h = c .before .before .before .before .before .header .given in
     let l = loaded (s .args .sheet .now) _ _ (q .last .1 .0) (q .last .1 .1 .0) (h .0 .0) (sym (h .1) ∙ q .ensures .0) (q .ensures .1 .0) (q .ensures .1 .1) in
     sym (l .whole .held .1)
 
-judge-requires : tie.Need-judge-requires
-judge-requires c κs =
+answer-slip-requires : tie.Need-answer-slip-requires
+answer-slip-requires c κs =
     let s = c .before .before .before .before .before .before .before .before .before .before .before .before .before .before .before .before .before in
     let q = c .before .before .before .before .before .before .before .before .before .before .read in
     let h = c .before .before .before .before .before .before .header .given in
@@ -110,9 +110,9 @@ returns-3 c =
     let q = c .before .before .before .before .before .before .before .before .before .before .before .before .before .before .before .before .before .read in
     let h = c .before .before .before .before .before .before .before .before .before .before .before .before .before .header .given in
     let l = loaded (s .args .sheet .now) _ _ (q .last .1 .0) (q .last .1 .1 .0) (h .0 .0) (sym (h .1) ∙ q .ensures .0) (q .ensures .1 .0) (q .ensures .1 .1) in
-    let j = c .before .before .before .before .before .before .judge in
+    let j = c .before .before .before .before .before .before .answer-slip in
     let z = c .before .before .ended in
-    checked-slip (s .args .sheet .now) (s .args .work .now) (s .args .slip .now) (z .result) (l .read) (j .last .1 .1 .1 .1 .0) (z .last .1 .0) (z .ensures .0 ∙ j .ensures .0 ∙ ap (λ (S : Sheet). answerOf (after (readSlip (s .args .slip .now)) (judgedOn S))) (l .same)) (c .before .before .before .before .before .before .before .before .before .before .before .before .before .before .before .before .before .before .before .before .if1 .left) (l .took) (j .ensures .1) (z .ensures .1)
+    checked-slip (s .args .sheet .now) (s .args .work .now) (s .args .slip .now) (z .result) (l .read) (j .last .1 .1 .1 .1 .0) (z .last .1 .0) (z .ensures .0 ∙ j .ensures .0 ∙ ap (λ (S : Sheet). checkAnswerOf (after (readSlip (s .args .slip .now)) (judgedOn S))) (l .same)) (c .before .before .before .before .before .before .before .before .before .before .before .before .before .before .before .before .before .before .before .before .if1 .left) (l .took) (j .ensures .1) (z .ensures .1)
 
 pub check-spec : {M : Type 1} → statement M
 check-spec =
@@ -130,10 +130,10 @@ check-spec =
     mul-numbers
     add-items
     array-share-prefix-arcs
-    slice-aggregate-judge
+    slice-aggregate-answer-slip
     array-share-prefix-marks
-    slice-aggregate-judge-2
-    judge-requires
+    slice-aggregate-answer-slip-2
+    answer-slip-requires
     ended-requires
     same-length
     returns-3)

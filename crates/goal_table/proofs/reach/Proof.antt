@@ -13,14 +13,14 @@ use Rattle.goal_table.proofs.RestLaws.{Rest, Next, rest-begun, rest-nex
 use Rattle.goal_table.proofs.SetLaws.{has-below}
 use Rattle.goal_table.proofs.TableLaws.{reach-more, reach-done, any-begun}
 use Rattle.goal_table.specs.Sets.{anyIn}
-use Rattle.goal_table.specs.Table.{Asked}
+use Rattle.goal_table.specs.Table.{SetAsked}
 use Rattle.goal_table.proofs.reach.Statement.{statement}
 use Rattle.goal_table.proofs.reach.Tie as tie
 
 abbrev Inv-loop : tie.InvT-loop
 Inv-loop work set v cap r₀ rest₀ r rest =
     (k : ℕ) × Rest set k rest
-    × ((N : Net) (a : ℕ) (goals : List ℕ) → Asked N cap a goals set v work → held cap (some r) ≡ held cap (anyIn (graph N) (closed N) a v goals set k))
+    × ((N : Net) (a : ℕ) (goals : List ℕ) → SetAsked N cap a goals set v work → held cap (some r) ≡ held cap (anyIn (graph N) (closed N) a v goals set k))
 
 abbrev μ-loop : tie.MeasureT-loop
 μ-loop work set v cap r₀ rest₀ r rest = rest

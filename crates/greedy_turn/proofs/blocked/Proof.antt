@@ -25,8 +25,8 @@ open-item-requires c κs =
       ),
     )
 
-judge-requires : tie.Need-judge-requires
-judge-requires c κs =
+stays-open-requires : tie.Need-stays-open-requires
+stays-open-requires c κs =
     let s = c .before .before .before .before .before .before .before .before .before .before .before .before .before in (
       (set-proper (s .pre .0 .0) (s .args .marks .now) (s .pre .1 .0 .0), set-goals (s .pre .0 .0) (s .args .marks .now)),
       (c .before .before .before .before .open-item .kept .1 .1 .1 .1 .1 .0 ∙ s .pre .1 .0 .2, s .pre .0 .0 .target, s .pre .0 .0 .small, omega (arith, s .pre .0 .0 .counted, s .pre .0 .0 .eight)),
@@ -40,7 +40,7 @@ returns c old e W B =
     let s = c .before .before .before .before .before .before .before .before .before .before .before .before .before .before .before .before in
     let a = s .args in
     let O = opening (s .pre .0 .0) old (a .o .item) (a .marks .now) (take (a .o .count * 3) (a .packed .now)) e (s .pre .1 .0 .0) (s .pre .1 .0 .1) (s .pre .0 .1 .arcs) in
-    let j = c .before .before .judge in
+    let j = c .before .before .stays-open in
     judged-asked (s .pre .0 .0) O W (c .before .before .before .before .before .before .before .open-item .ensures) (j .last .1 .1 .1 .1 .1 .0) (j .result) (j .ensures .0) (j .ensures .1 .0) (j .ensures .1 .1)
 
 moved-requires : tie.Need-moved-requires
@@ -55,8 +55,8 @@ moved-requires c κs =
       λ i h. omega (arith, s .pre .1 .0 .3 i h, t .ensures .saves .beside (576 + i) (omega (arith, S .counted, S .eight)) (omega (arith, S .eight))),
     )
 
-judge-requires-2 : tie.Need-judge-requires-2
-judge-requires-2 c κs =
+stays-open-requires-2 : tie.Need-stays-open-requires-2
+stays-open-requires-2 c κs =
     let s = c .before .before .before .before .before .before .before .before .before .before .before .before .before .before .before .before in (
       (set-proper (s .pre .0 .0) (s .args .marks .now) (s .pre .1 .0 .0), set-goals (s .pre .0 .0) (s .args .marks .now)),
       (c .before .before .before .before .before .before .before .open-item .kept .1 .1 .1 .1 .1 .0 ∙ s .pre .1 .0 .2, s .pre .0 .0 .target, s .pre .0 .0 .small, omega (arith, s .pre .0 .0 .counted, s .pre .0 .0 .eight)),
@@ -70,7 +70,7 @@ returns-2 c old e W B =
     let s = c .before .before .before .before .before .before .before .before .before .before .before .before .before .before .before .before .before .before .before in
     let a = s .args in
     let O = opening (s .pre .0 .0) old (a .o .item) (a .marks .now) (take (a .o .count * 3) (a .packed .now)) e (s .pre .1 .0 .0) (s .pre .1 .0 .1) (s .pre .0 .1 .arcs) in
-    let j = c .before .before .judge2 in
+    let j = c .before .before .stays-open2 in
     judged-asked (s .pre .0 .0) O W (c .before .before .before .before .before .before .before .before .before .before .open-item .ensures) (j .last .1 .1 .1 .1 .1 .0) (j .result) (j .ensures .0) (j .ensures .1 .0) (j .ensures .1 .1)
 
 same-length-3 : tie.Need-same-length-3
@@ -89,11 +89,11 @@ blocked-spec =
     (tie.spec
     shared-slice-read-moved
     open-item-requires
-    judge-requires
+    stays-open-requires
     same-length
     returns
     moved-requires
-    judge-requires-2
+    stays-open-requires-2
     same-length-2
     returns-2
     same-length-3

@@ -36,14 +36,14 @@ ready-rows-requires c κs =
     let s = c .before .before .before .before .before .before .before .before .before .before .before .before .before in
     ((s .pre .0, one-goal (s .pre .0) (s .args .item) (s .args .slip .now) (c .before .before .before .before .before .before .before .if1 .left), omega (arith, s .pre .1, c .before .before .before .before .before .is-pruned .kept .1 .1 .1 .0)), λ q. absurd (omega arith))
 
-slice-aggregate-list-reasons : tie.Need-slice-aggregate-list-reasons
-slice-aggregate-list-reasons c = search needs
+slice-aggregate-list-for-sheet : tie.Need-slice-aggregate-list-for-sheet
+slice-aggregate-list-for-sheet c = search needs
 
-slice-aggregate-list-reasons-2 : tie.Need-slice-aggregate-list-reasons-2
-slice-aggregate-list-reasons-2 c = search needs
+slice-aggregate-list-for-sheet-2 : tie.Need-slice-aggregate-list-for-sheet-2
+slice-aggregate-list-for-sheet-2 c = search needs
 
-list-reasons-requires : tie.Need-list-reasons-requires
-list-reasons-requires c κs =
+list-for-sheet-requires : tie.Need-list-for-sheet-requires
+list-for-sheet-requires c κs =
     let s = c .before .before .before .before .before .before .before .before .before .before .before .before .before .before .before .before .before .before .before in
     let p = c .before .before .before .before .before .before .before .before .before .before .before .is-pruned in
     let t = c .before .before .before .before .before .ready-rows in
@@ -53,15 +53,15 @@ slice-aggregate-write-slip : tie.Need-slice-aggregate-write-slip
 slice-aggregate-write-slip c = search needs
 
 array-share-prefix-list : tie.Need-array-share-prefix-list
-array-share-prefix-list c = let s = c .before .before .before .before .before .before .before .before .before .before .before .before .before .before .before .before .before .before .before .before .before .before .before .before .before in let r = c .before .before .before .before .before .list-reasons in reasons-inside (s .pre .0) _ (r .last .1 .1 .1 .1 .1 .0) (r .result) (r .ensures .0) (r .kept .1 .1 .1 .1 .1 .0)
+array-share-prefix-list c = let s = c .before .before .before .before .before .before .before .before .before .before .before .before .before .before .before .before .before .before .before .before .before .before .before .before .before in let r = c .before .before .before .before .before .list-for-sheet in reasons-inside (s .pre .0) _ (r .last .1 .1 .1 .1 .1 .0) (r .result) (r .ensures .0) (r .kept .1 .1 .1 .1 .1 .0)
 
 slice-aggregate-write-slip-2 : tie.Need-slice-aggregate-write-slip-2
-slice-aggregate-write-slip-2 c = let s = c .before .before .before .before .before .before .before .before .before .before .before .before .before .before .before .before .before .before .before .before .before .before .before .before .before .before in let r = c .before .before .before .before .before .before .list-reasons in sym (length-take-le (r .result) (r .last .1 .1 .1 .1 .1 .0) (reasons-inside (s .pre .0) _ (r .last .1 .1 .1 .1 .1 .0) (r .result) (r .ensures .0) (r .kept .1 .1 .1 .1 .1 .0)))
+slice-aggregate-write-slip-2 c = let s = c .before .before .before .before .before .before .before .before .before .before .before .before .before .before .before .before .before .before .before .before .before .before .before .before .before .before in let r = c .before .before .before .before .before .before .list-for-sheet in sym (length-take-le (r .result) (r .last .1 .1 .1 .1 .1 .0) (reasons-inside (s .pre .0) _ (r .last .1 .1 .1 .1 .1 .0) (r .result) (r .ensures .0) (r .kept .1 .1 .1 .1 .1 .0)))
 
 write-slip-requires : tie.Need-write-slip-requires
 write-slip-requires c κs =
     let s = c .before .before .before .before .before .before .before .before .before .before .before .before .before .before .before .before .before .before .before .before .before .before .before .before .before .before in
-    let r = c .before .before .before .before .before .before .list-reasons in
+    let r = c .before .before .before .before .before .before .list-for-sheet in
     item-room (s .pre .0) (s .args .item) (s .args .slip .now) (c .before .before .before .before .before .before .before .before .before .before .before .before .before .before .before .before .before .before .before .before .if1 .left) _ (s .pre .2) _ (r .last .1 .1 .1 .1 .1 .0) (r .result) (r .ensures .0) (r .ensures .1 .0)
 
 same-length-2 : tie.Need-same-length-2
@@ -75,7 +75,7 @@ returns-3 c =
     let s = c .before .before .before .before .before .before .before .before .before .before .before .before .before .before .before .before .before .before .before .before .before .before .before .before .before .before .before .before .before in
     let p = c .before .before .before .before .before .before .before .before .before .before .before .before .before .before .before .before .before .before .before .before .before .is-pruned in
     let t = c .before .before .before .before .before .before .before .before .before .before .before .before .before .before .before .ready-rows in
-    let r = c .before .before .before .before .before .before .before .before .before .list-reasons in
+    let r = c .before .before .before .before .before .before .before .before .before .list-for-sheet in
     let w = c .before .before .write-slip in
     (explains (s .pre .0) (s .args .item) (s .args .slip .now) (c .before .before .before .before .before .before .before .before .before .before .before .before .before .before .before .before .before .before .before .before .before .before .before .if1 .left) (sym (p .ensures .0) ∙ not-false _ (c .before .before .before .before .before .before .before .before .before .before .before .before .before .before .before .before .before .before .if2 .left)) _ (r .last .1 .1 .1 .1 .1 .0) (r .result) (w .result) (w .last .0) (r .ensures .0) (r .ensures .1 .0) (w .ensures .0) (w .ensures .1), r .ensures .1 .1 ∙ t .ensures .1 ∙ p .ensures .1)
 
@@ -90,9 +90,9 @@ explain-item-spec =
     returns-2
     slice-aggregate-ready-rows
     ready-rows-requires
-    slice-aggregate-list-reasons
-    slice-aggregate-list-reasons-2
-    list-reasons-requires
+    slice-aggregate-list-for-sheet
+    slice-aggregate-list-for-sheet-2
+    list-for-sheet-requires
     slice-aggregate-write-slip
     array-share-prefix-list
     slice-aggregate-write-slip-2

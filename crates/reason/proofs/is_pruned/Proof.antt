@@ -8,24 +8,24 @@ use Rattle.reason.proofs.is_pruned.Statement.{statement}
 use Rattle.reason.proofs.is_pruned.Tie as tie
 use Rattle.reason.proofs.is_pruned.Reads as reads
 use Rattle.reason.proofs.is_pruned.Lts as lts
-use Rattle.item_fits.proofs.fill_rows.Reads as fill-rows-reads
+use Rattle.item_fits.proofs.fill_end_rows.Reads as fill-end-rows-reads
 use Rattle.item_fits.proofs.fits_item.Reads as fits-item-reads
-use Rattle.pass_verdict.proofs.judge.Reads as judge-reads
+use Rattle.pass_verdict.proofs.find_verdict.Reads as find-verdict-reads
 
-slice-aggregate-fill-rows : tie.Need-slice-aggregate-fill-rows
-slice-aggregate-fill-rows c = search needs
+slice-aggregate-fill-end-rows : tie.Need-slice-aggregate-fill-end-rows
+slice-aggregate-fill-end-rows c = search needs
 
-fill-rows-requires : tie.Need-fill-rows-requires
-fill-rows-requires c κs = search needs
+fill-end-rows-requires : tie.Need-fill-end-rows-requires
+fill-end-rows-requires c κs = search needs
 
-slice-aggregate-judge : tie.Need-slice-aggregate-judge
-slice-aggregate-judge c = search needs
+slice-aggregate-find-verdict : tie.Need-slice-aggregate-find-verdict
+slice-aggregate-find-verdict c = search needs
 
-slice-aggregate-judge-2 : tie.Need-slice-aggregate-judge-2
-slice-aggregate-judge-2 c = search needs
+slice-aggregate-find-verdict-2 : tie.Need-slice-aggregate-find-verdict-2
+slice-aggregate-find-verdict-2 c = search needs
 
-judge-requires : tie.Need-judge-requires
-judge-requires c κs = search needs
+find-verdict-requires : tie.Need-find-verdict-requires
+find-verdict-requires c κs = search needs
 
 same-length : tie.Need-same-length
 same-length c = search needs
@@ -33,7 +33,7 @@ same-length c = search needs
 returns : tie.Need-returns
 returns c =
     let s = c .before .before .before .before .before .before .before .before .before .before .before .before .before .before .before in
-    let j = c .before .before .before .before .before .judge in
+    let j = c .before .before .before .before .before .find-verdict in
     (not-standing (sheetOf (s .args .header) (s .args .arcs .now) (s .args .marks .now)) (s .args .item) (λ z. c .if1 .taken (j .ensures .0 .number ∙ z)), j .ensures .1 .1)
 
 shared-slice-read-if2 : tie.Need-shared-slice-read-if2
@@ -46,7 +46,7 @@ returns-2 : tie.Need-returns-2
 unfolding markOf
 returns-2 c =
     let s = c .before .before .before .before .before .before .before .before .before .before .before .before .before .before .before .before .before in
-    let j = c .before .before .before .before .before .before .before .judge in
+    let j = c .before .before .before .before .before .before .before .find-verdict in
     (not-open (sheetOf (s .args .header) (s .args .arcs .now) (s .args .marks .now)) (s .args .item) (sym (j .ensures .0 .number) ∙ c .before .before .if1 .left) (c .if2 .taken), j .ensures .1 .1)
 
 slice-aggregate-fits-item : tie.Need-slice-aggregate-fits-item
@@ -62,18 +62,18 @@ returns-3 : tie.Need-returns-3
 unfolding markOf
 returns-3 c =
     let s = c .before .before .before .before .before .before .before .before .before .before .before .before .before .before .before .before .before .before .before in
-    let j = c .before .before .before .before .before .before .before .before .before .judge in
+    let j = c .before .before .before .before .before .before .before .before .before .find-verdict in
     (by-walks (sheetOf (s .args .header) (s .args .arcs .now) (s .args .marks .now)) (s .args .item) (c .fits-item .result) (sym (j .ensures .0 .number) ∙ c .before .before .before .before .if1 .left) (c .before .before .if2 .left) (c .fits-item .ensures), j .ensures .1 .1)
 
 pub is-pruned-spec : {M : Type 1} → statement M
 is-pruned-spec =
     tie.close
     (tie.spec
-    slice-aggregate-fill-rows
-    fill-rows-requires
-    slice-aggregate-judge
-    slice-aggregate-judge-2
-    judge-requires
+    slice-aggregate-fill-end-rows
+    fill-end-rows-requires
+    slice-aggregate-find-verdict
+    slice-aggregate-find-verdict-2
+    find-verdict-requires
     same-length
     returns
     shared-slice-read-if2

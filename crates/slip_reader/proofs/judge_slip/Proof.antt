@@ -19,8 +19,8 @@ returns c = (first-low _ (ap (readOf _) (sym (c .before .before .first .given .1
 returns-2 : tie.Need-returns-2
 returns-2 c = (first-high _ (ap (readOf _) (sym (c .before .before .before .first .given .1)) ∙ c .before .before .before .before .before .number-at .ensures .0) (c .before .if1 .left) (omega (arith, c .if2 .taken)), tt)
 
-judge-lists-requires : tie.Need-judge-lists-requires
-judge-lists-requires c κs = search needs
+read-lists-requires : tie.Need-read-lists-requires
+read-lists-requires c κs = search needs
 
 enum-told : tie.Need-enum-told
 enum-told c = search needs
@@ -30,8 +30,8 @@ enum-told-2 c = search needs
 
 returns-3 : tie.Need-returns-3
 returns-3 c = (
-  c .judge-lists .ensures .0 ∙ first-read _ (ap (readOf _) (sym (c .before .before .before .before .first .given .1)) ∙ c .before .before .before .before .before .before .number-at .ensures .0) (c .before .before .if1 .left) (c .before .if2 .left),
-  c .judge-lists .ensures .1,
+  c .read-lists .ensures .0 ∙ first-read _ (ap (readOf _) (sym (c .before .before .before .before .first .given .1)) ∙ c .before .before .before .before .before .before .number-at .ensures .0) (c .before .before .if1 .left) (c .before .if2 .left),
+  c .read-lists .ensures .1,
 )
 
 returns-4 : tie.Need-returns-4
@@ -48,7 +48,7 @@ judge-slip-spec =
     enum-known-first
     returns
     returns-2
-    judge-lists-requires
+    read-lists-requires
     enum-told
     enum-told-2
     returns-3

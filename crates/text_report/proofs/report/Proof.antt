@@ -52,14 +52,14 @@ array-share-prefix-slip c =
     let p = c .before .before .before .before .before .pass in
     finished-call (s .args .sheet .now) (s .args .work .now) _ (omega arith) _ _ _ _ (p .ensures) (c .if1 .left) .within
 
-slice-aggregate-write-slip : tie.Need-slice-aggregate-write-slip
-slice-aggregate-write-slip c =
+slice-aggregate-put-slip-text : tie.Need-slice-aggregate-put-slip-text
+slice-aggregate-put-slip-text c =
     let s = c .before .before .before .before .before .before .before .before .before .before .before .before in
     let p = c .before .before .before .before .before .before .pass in
     finished-call (s .args .sheet .now) (s .args .work .now) _ (omega arith) _ _ _ _ (p .ensures) (c .before .if1 .left) .size
 
-write-slip-requires : tie.Need-write-slip-requires
-write-slip-requires c κs =
+put-slip-text-requires : tie.Need-put-slip-text-requires
+put-slip-text-requires c κs =
     let s = c .before .before .before .before .before .before .before .before .before .before .before .before .before in
     let p = c .before .before .before .before .before .before .before .pass in
     (finished-call (s .args .sheet .now) (s .args .work .now) _ (omega arith) _ _ _ _ (p .ensures) (c .before .before .if1 .left) .passes, s .pre)
@@ -75,7 +75,7 @@ returns-2 c =
     let s = c .before .before .before .before .before .before .before .before .before .before .before .before .before .before .before .before in
     let p = c .before .before .before .before .before .before .before .before .before .before .pass in
     let r = finished-call (s .args .sheet .now) (s .args .work .now) _ (omega arith) _ _ _ _ (p .ensures) (c .before .before .before .before .before .if1 .left) in
-    let w = c .before .before .write-slip .ensures in
+    let w = c .before .before .put-slip-text .ensures in
     rw (r .printed) (w .0, (w .1, (work-left (s .args .sheet .now) (s .args .work .now) _ (omega arith) _ _ _ _ (p .ensures), within (slipText (s .args .sheet .now) (take (p .result .length) (p .last .1 .1 .0))) _ _ _ (w .0) (w .1))))
 
 pub report-spec : {M : Type 1} → statement M
@@ -92,8 +92,8 @@ report-spec =
     same-length-2
     returns
     array-share-prefix-slip
-    slice-aggregate-write-slip
-    write-slip-requires
+    slice-aggregate-put-slip-text
+    put-slip-text-requires
     same-length-3
     same-length-4
     returns-2)

@@ -1,10 +1,10 @@
--- `judge_lists` judges the goals, then the reasons, then what is left. Assumes nothing.
+-- `read_lists` judges the goals, then the reasons, then what is left. Assumes nothing.
 use borrow.Author.Needs.{needs}
 use mathlib.Core.Path.{ap, sym, subst, _∙_}
 use Rattle.slip_reader.specs.Form.{listOf, ListCount}
 use Rattle.slip_reader.proofs.FormLaws.{goals-not, reasons-not, bytes-left, lists-read}
-use Rattle.slip_reader.proofs.judge_lists.Statement.{statement}
-use Rattle.slip_reader.proofs.judge_lists.Tie as tie
+use Rattle.slip_reader.proofs.read_lists.Statement.{statement}
+use Rattle.slip_reader.proofs.read_lists.Tie as tie
 
 list-at-requires : tie.Need-list-at-requires
 list-at-requires c κs = search needs
@@ -48,8 +48,8 @@ returns-3 c = (
 returns-4 : tie.Need-returns-4
 returns-4 c = (goals-not _ _ (ap (listOf _) (sym (c .enum-told2 .given .1)) ∙ c .before .before .list-at .ensures .0), tt)
 
-pub judge-lists-spec : {M : Type 1} → statement M
-judge-lists-spec =
+pub read-lists-spec : {M : Type 1} → statement M
+read-lists-spec =
     tie.close
     (tie.spec
     list-at-requires

@@ -1,4 +1,4 @@
--- `checker::judge_form` meets its contract: a list that is too long is not well formed. Assumes nothing.
+-- `checker::answer_form` meets its contract: a list that is too long is not well formed. Assumes nothing.
 use mathlib.Core.Path.{refl, _∙_}
 use native.Mathlib.Omega.{arith}
 use Rattle.sheet_required.specs.Held.{sheetOf}
@@ -7,8 +7,8 @@ use Rattle.sheet_required.proofs.HeldLaws.{items-are}
 use Rattle.check_claim.proofs.FormLaws.{many-goals, many-reasons}
 use Rattle.checker.proofs.AnswerLaws.{answer-formed}
 use borrow.Author.Needs.{needs}
-use Rattle.checker.proofs.judge_form.Statement.{statement}
-use Rattle.checker.proofs.judge_form.Tie as tie
+use Rattle.checker.proofs.answer_form.Statement.{statement}
+use Rattle.checker.proofs.answer_form.Tie as tie
 
 cast-if1 : tie.Need-cast-if1
 cast-if1 c = search needs
@@ -37,8 +37,8 @@ returns-2 c =
     let S = sheetOf (s .args .header) (s .args .arcs .now) (s .args .marks .now) in
     (c .refused2 .ensures ∙ answer-formed S _ (many-reasons S (s .args .form .first) (valuesAt (s .args .slip .now) (s .args .form .goals) (s .args .form .«goals_at»)) (valuesAt (s .args .slip .now) (s .args .form .reasons) (s .args .form .«reasons_at»)) (omega (arith, s .pre .2 .1, items-are (s .pre .0), c .before .if2 .taken))), refl)
 
-judge-lists-requires : tie.Need-judge-lists-requires
-judge-lists-requires c κs = search needs
+answer-lists-requires : tie.Need-answer-lists-requires
+answer-lists-requires c κs = search needs
 
 same-length : tie.Need-same-length
 same-length c = search needs
@@ -46,8 +46,8 @@ same-length c = search needs
 returns-3 : tie.Need-returns-3
 returns-3 c = search needs
 
-pub judge-form-spec : {M : Type 1} → statement M
-judge-form-spec =
+pub answer-form-spec : {M : Type 1} → statement M
+answer-form-spec =
     tie.close
     (tie.spec
     cast-if1
@@ -57,6 +57,6 @@ judge-form-spec =
     add-if2
     refused-requires-2
     returns-2
-    judge-lists-requires
+    answer-lists-requires
     same-length
     returns-3)

@@ -1,4 +1,4 @@
--- `checker::judge_lists` meets its contract: the lists that are read stand in front of the arrays, and the tests are those of `judgedOn`. Assumes nothing.
+-- `checker::answer_lists` meets its contract: the lists that are read stand in front of the arrays, and the tests are those of `judgedOn`. Assumes nothing.
 use mathlib.Core.Path.{refl, sym, ap, _∙_}
 use mathlib.Core.Bool.{true, false}
 use lib.ListN.{length, take}
@@ -9,8 +9,8 @@ use Rattle.check_claim.proofs.ListLaws.{passed, failed}
 use Rattle.check_claim.proofs.FormLaws.{formed-asked}
 use Rattle.checker.proofs.AnswerLaws.{answer-formed, answer-judged, of-lists}
 use borrow.Author.Needs.{needs}
-use Rattle.checker.proofs.judge_lists.Statement.{statement}
-use Rattle.checker.proofs.judge_lists.Tie as tie
+use Rattle.checker.proofs.answer_lists.Statement.{statement}
+use Rattle.checker.proofs.answer_lists.Tie as tie
 
 cast-goal-count : tie.Need-cast-goal-count
 cast-goal-count c = search needs
@@ -110,8 +110,8 @@ returns-3 c =
       f .ensures .1,
     )
 
-pub judge-lists-spec : {M : Type 1} → statement M
-judge-lists-spec =
+pub answer-lists-spec : {M : Type 1} → statement M
+answer-lists-spec =
     tie.close
     (tie.spec
     cast-goal-count

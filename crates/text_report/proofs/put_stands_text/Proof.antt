@@ -1,4 +1,4 @@
--- `write_stands` lists the items newly forbidden by the sheet's marks, which it reads again, and by those of the slip. Assumes nothing.
+-- `put_stands_text` lists the items newly forbidden by the sheet's marks, which it reads again, and by those of the slip. Assumes nothing.
 use borrow.Author.Needs.{needs}
 use Prim.Native.Nat.{_+_}
 use mathlib.Core.Path.{sym, ap, _∙_}
@@ -9,8 +9,8 @@ use Rattle.sheet_reader.proofs.LoadedLaws.{loaded, unloaded}
 use Rattle.sheet.specs.Sheet.{Sheet}
 use Rattle.text_answer.specs.Text.{newlyForbidden}
 use Rattle.text_report.proofs.SlipTextLaws.{never-refused, stands-is}
-use Rattle.text_report.proofs.write_stands.Statement.{statement}
-use Rattle.text_report.proofs.write_stands.Tie as tie
+use Rattle.text_report.proofs.put_stands_text.Statement.{statement}
+use Rattle.text_report.proofs.put_stands_text.Tie as tie
 
 slice-aggregate-read : tie.Need-slice-aggregate-read
 slice-aggregate-read c = search needs
@@ -115,8 +115,8 @@ returns-2 c =
     let k = listed-front (newlyForbidden ms (s .args .slip .now)) _ _ _ (c .before .before .before .before .before .before .newly-forbidden .ensures) in
     rw (T .printed) (rw k at (c .before .before .put-stands .ensures))
 
-pub write-stands-spec : {M : Type 1} → statement M
-write-stands-spec =
+pub put-stands-text-spec : {M : Type 1} → statement M
+put-stands-text-spec =
     tie.close
     (tie.spec
     slice-aggregate-read

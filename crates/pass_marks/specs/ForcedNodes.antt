@@ -8,6 +8,6 @@ use Rattle.sheet.specs.Sheet.{Sheet}
 use Rattle.pass_rules.specs.Verdict.{isForced}
 
 -- a 1 for each node that becomes mandatory where it is open
-pub record Forced (S : Sheet) (forced : List ℕ) : Type 0 where
+pub record ForcedNodes (S : Sheet) (forced : List ℕ) : Type 0 where
   pub size : length forced ≡ 64
   pub each : (p : ℕ) → p < S .graph .nodes → eqb (getD forced p 0) 1 ≡ isForced S p

@@ -1,10 +1,10 @@
--- `pass::list_reasons` meets its contract: the greedy list for the sheet's own limit. Assumes nothing.
+-- `pass::list_for_sheet` meets its contract: the greedy list for the sheet's own limit. Assumes nothing.
 use native.Mathlib.Omega.{arith}
 use borrow.Author.Needs.{needs}
 use Rattle.sheet.specs.Sheet.{isForbidden}
 use Rattle.pass_rules.specs.Verdict.{fitsSheet, reasonsFor}
-use Rattle.pass.proofs.list_reasons.Statement.{statement}
-use Rattle.pass.proofs.list_reasons.Tie as tie
+use Rattle.pass.proofs.list_for_sheet.Statement.{statement}
+use Rattle.pass.proofs.list_for_sheet.Tie as tie
 
 list-reasons-requires : tie.Need-list-reasons-requires
 unfolding fitsSheet isForbidden
@@ -23,5 +23,5 @@ returns : tie.Need-returns
 unfolding reasonsFor
 returns c = let r = c .before .before .before .before .list-reasons .ensures in (r .1 .0, (r .0, r .1 .1))
 
-pub list-reasons-spec : {M : Type 1} → statement M
-list-reasons-spec = tie.close (tie.spec list-reasons-requires same-length same-length-2 returns)
+pub list-for-sheet-spec : {M : Type 1} → statement M
+list-for-sheet-spec = tie.close (tie.spec list-reasons-requires same-length same-length-2 returns)

@@ -4,10 +4,10 @@ use native.Mathlib.Omega.{arith}
 use lib.Seq.{length-take-le}
 use Rattle.item_fits.proofs.RowsLaws.{second-long, rows-ready}
 use borrow.Author.Needs.{needs}
-use Rattle.item_fits.proofs.fill_rows.Statement.{statement}
-use Rattle.item_fits.proofs.fill_rows.Tie as tie
-use Rattle.item_fits.proofs.fill_rows.Reads as reads
-use Rattle.item_fits.proofs.fill_rows.Lts as lts
+use Rattle.item_fits.proofs.fill_end_rows.Statement.{statement}
+use Rattle.item_fits.proofs.fill_end_rows.Tie as tie
+use Rattle.item_fits.proofs.fill_end_rows.Reads as reads
+use Rattle.item_fits.proofs.fill_end_rows.Lts as lts
 use Rattle.row_fill.proofs.row_from.Reads as row-from-reads
 use Rattle.row_fill.proofs.row_to.Reads as row-to-reads
 
@@ -52,8 +52,8 @@ returns c =
     let m = t .kept .1 .1 .1 .1 .0 ∙ second-long (f .last .1 .1 .1 .1 .0) (s .args .rows .now) l (s .pre .1) in
     rows-ready (f .last .1 .1 .1 .1 .0) (s .args .rows .now) l (s .pre .1) (s .args .header) (s .args .arcs .now) (s .args .marks .now) (t .last .1 .1 .1 .1 .0) (s .pre .0) m (f .ensures) (t .ensures)
 
-pub fill-rows-spec : {M : Type 1} → statement M
-fill-rows-spec =
+pub fill-end-rows-spec : {M : Type 1} → statement M
+fill-end-rows-spec =
     tie.close
     (tie.spec
     slice-relend-prefix-row-from

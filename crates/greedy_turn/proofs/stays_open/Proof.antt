@@ -6,8 +6,8 @@ use native.Mathlib.Omega.{arith}
 use borrow.Author.Needs.{needs}
 use Rattle.rows.proofs.WorkLaws.{behind}
 use Rattle.greedy_turn.proofs.TurnLaws.{front-same}
-use Rattle.greedy_turn.proofs.judge.Statement.{statement}
-use Rattle.greedy_turn.proofs.judge.Tie as tie
+use Rattle.greedy_turn.proofs.stays_open.Statement.{statement}
+use Rattle.greedy_turn.proofs.stays_open.Tie as tie
 
 fits-limit-requires : tie.Need-fits-limit-requires
 fits-limit-requires c κs = search needs
@@ -43,7 +43,7 @@ returns-2 c =
     let f = c .before .before .before .fits-limit in
     (λ R. f .ensures .0 R ∙ c .if1 .left, (λ _. (f .ensures .1 .0, f .ensures .1 .1 .0), λ q. absurd (true≢false q)))
 
-pub judge-spec : {M : Type 1} → statement M
-judge-spec =
+pub stays-open-spec : {M : Type 1} → statement M
+stays-open-spec =
     tie.close
     (tie.spec fits-limit-requires put-back-requires same-length returns same-length-2 returns-2)

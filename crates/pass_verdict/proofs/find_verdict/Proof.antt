@@ -7,8 +7,8 @@ use Rattle.sheet_required.specs.Held.{sheetOf}
 use Rattle.item_fits.proofs.FitLaws.{target-fits, some-walk}
 use Rattle.pass_verdict.proofs.JudgeLaws.{unmet-found, unmet-empty, judged-one, judged-two}
 use borrow.Author.Needs.{needs}
-use Rattle.pass_verdict.proofs.judge.Statement.{statement}
-use Rattle.pass_verdict.proofs.judge.Tie as tie
+use Rattle.pass_verdict.proofs.find_verdict.Statement.{statement}
+use Rattle.pass_verdict.proofs.find_verdict.Tie as tie
 
 mul-if1 : tie.Need-mul-if1
 mul-if1 c = search needs
@@ -57,8 +57,8 @@ same-length-3 c = search needs
 returns-3 : tie.Need-returns-3
 returns-3 c = search needs
 
-pub judge-spec : {M : Type 1} → statement M
-judge-spec =
+pub find-verdict-spec : {M : Type 1} → statement M
+find-verdict-spec =
     tie.close
     (tie.spec
     mul-if1

@@ -1,4 +1,4 @@
--- `write_blame` reads the goals and the reasons out of the slip, which reads back since the pass wrote it. Assumes nothing.
+-- `put_blame_text` reads the goals and the reasons out of the slip, which reads back since the pass wrote it. Assumes nothing.
 use borrow.Author.Needs.{needs}
 use mathlib.Core.Path.{sym, ap, _∙_, subst}
 use native.Mathlib.Omega.{arith}
@@ -6,8 +6,8 @@ use lib.ListN.{length}
 use Rattle.sheet_required.proofs.HeldLaws.{listed-front}
 use Rattle.slip_reader.specs.Form.{slipOf, valuesAt, SlipCounts}
 use Rattle.text_report.proofs.SlipTextLaws.{never-unformed, told}
-use Rattle.text_report.proofs.write_blame.Statement.{statement}
-use Rattle.text_report.proofs.write_blame.Tie as tie
+use Rattle.text_report.proofs.put_blame_text.Statement.{statement}
+use Rattle.text_report.proofs.put_blame_text.Tie as tie
 
 judge-slip-requires : tie.Need-judge-slip-requires
 judge-slip-requires c κs = search needs
@@ -120,8 +120,8 @@ returns-2 c =
     let r = listed-front (valuesAt slip (f .0 .0 .reasons) (f .0 .0 .«reasons_at»)) _ _ _ (sym (T .counts .1), c .before .before .before .before .before .before .before .before .numbers-at2 .ensures) in
     rw (T .printed) (rw (g, r) at (c .before .before .put-blame .ensures))
 
-pub write-blame-spec : {M : Type 1} → statement M
-write-blame-spec =
+pub put-blame-text-spec : {M : Type 1} → statement M
+put-blame-text-spec =
     tie.close
     (tie.spec
     judge-slip-requires

@@ -8,7 +8,7 @@ use Rattle.pass_rules.specs.Verdict.{verdict}
 use Rattle.pass_verdict.specs.declared.Verdict.{Verdict}
 
 -- the verdict's number and goals, which stand in front
-pub record Judged (S : Sheet) (v : Verdict) (list : List ℕ) : Type 0 where
+pub record VerdictFound (S : Sheet) (v : Verdict) (list : List ℕ) : Type 0 where
   pub number : v .number ≡ verdict S .number
   pub goals : take (v .count) list ≡ verdict S .goals
   pub count : v .count ≤ 8
