@@ -15,7 +15,7 @@ use Rattle.reason_list.specs.Reasons.{but}
 use Rattle.lists.proofs.MemberLaws.{member-head, member-cases, member-none}
 use Rattle.lists.proofs.TestLaws.{false-back, and-true, not-true, true-or-false}
 use Rattle.lists.specs.Lists.{member}
-use Rattle.sheet.proofs.MarkLaws.{required-is, is-required, is-open, is-mandatory}
+use Rattle.sheet.proofs.MarkLaws.{required-is, is-open, is-mandatory}
 use Rattle.sheet.proofs.SheetLaws.{good-mark}
 use Rattle.sheet.specs.Sheet.{Sheet, isForbidden, required, isOpen, markOf}
 use Rattle.sheet.specs.Slip.{Slip}

@@ -1,5 +1,5 @@
 -- The open arcs of a graph in one list of 2112 numbers: packed, three numbers each, and from 1536 on chained by their tails.
-use Prim.Native.Nat.{ℕ, _+_, _*_, _≤_, _<_}
+use Prim.Native.Nat.{ℕ, _+_, _*_, _≤_}
 use mathlib.Core.Path.{_≡_}
 use mathlib.Core.List.{List}
 use lib.ListN.{length, getD, take, drop, set}

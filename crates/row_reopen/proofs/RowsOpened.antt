@@ -1,5 +1,5 @@
 -- All rows once an item is opened: each holds the least lengths as it is, or can be mended. Assumes nothing.
-use Prim.Native.Nat.{ℕ, _+_, _-_, _*_, _≤_, _<_}
+use Prim.Native.Nat.{ℕ, _+_, _-_, _<_}
 use mathlib.Core.Path.{_≡_, refl, sym, ap, _∙_}
 use mathlib.Core.Logic.{_⊎_, inl, inr}
 use mathlib.Core.Bool.{true, true≢false, false}
@@ -12,7 +12,7 @@ use Rattle.walks.specs.Graph.{closedIn}
 use Rattle.walks.proofs.OpenedLaws.{opens}
 use Rattle.rows.specs.Bits.{bitOf, alone}
 use Rattle.rows.specs.Held.{missing}
-use Rattle.rows.specs.Net.{Net, netOf, arcCount, tailIn, headIn, weightIn, Proper}
+use Rattle.rows.specs.Net.{netOf, arcCount, tailIn, headIn, weightIn, Proper}
 use Rattle.rows.specs.Rows.{rowAt, RowIs, Tried, RowsAre, RowsSound, StartsOf}
 use Rattle.rows.proofs.BitLaws.{bit-own, added-own, added-kept}
 use Rattle.rows.proofs.OpenLaws.{sound-opens}

@@ -1,5 +1,5 @@
 -- The active node with the least entry, found by taking the lowest active node off until none is left. Assumes nothing.
-use Prim.Native.Nat.{ℕ, _/_, _-_, _^_, _≤_, _<_}
+use Prim.Native.Nat.{ℕ, _-_, _^_, _≤_, _<_}
 use mathlib.Core.Path.{_≡_, ap, _∙_}
 use mathlib.Core.Logic.{_⊎_, inl, inr, ⊎-elim}
 use mathlib.Core.List.{List}

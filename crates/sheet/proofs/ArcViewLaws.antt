@@ -4,16 +4,16 @@
 use Prim.Native.Nat.{ℕ, zero, suc, _+_, _-_, _*_, _≤_, _<_}
 use mathlib.Core.Path.{_≡_, refl, sym, ap, _∙_, subst}
 use mathlib.Core.Logic.{_↔_}
-use mathlib.Core.Bool.{Bool, true, false, not, _&&_}
+use mathlib.Core.Bool.{Bool, true, false}
 use mathlib.Core.List.{List, [], _++_, append-nil, append-assoc}
 use native.Mathlib.Omega.{arith}
 use lib.ListN.{length, getD, take, length-append}
 use lib.Seq.{take-at}
-use lib.Dec.{eqb, leb, ltb}
+use lib.Dec.{ltb}
 use borrow.Author.Tests.{lt-ltb, le-ltb, ltb-true, ltb-false}
 use Rattle.varint.proofs.VarintLaws.{Front, number-got, judged-front, after-front, after-got, number-front, got-both, several-first}
 use Rattle.varint.specs.Varint.{Read, got, after, readNumber, number, several, readGroups, refuse}
-use Rattle.walks.specs.Graph.{Graph, Arc, noArc, itemCount}
+use Rattle.walks.specs.Graph.{Graph, Arc, noArc}
 use Rattle.sheet.proofs.SheetLaws.{Taken, several-got, got-taken, taken-got}
 use Rattle.sheet.specs.ArcView.{restOf, past, bytesOf, forArc, arcView, placeOf}
 use Rattle.sheet.specs.declared.Header.{Header}

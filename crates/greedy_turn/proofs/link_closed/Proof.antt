@@ -1,6 +1,5 @@
 -- `turns::link_closed` meets its contract: an arc that was put behind the others is taken off its chain, and else the arcs are packed anew. Assumes nothing.
-use Prim.Native.Nat.{_+_, _*_, _<_}
-use mathlib.Core.Path.{_≡_, sym, _∙_}
+use Prim.Native.Nat.{_*_, _<_}
 use native.Mathlib.Omega.{arith}
 use borrow.Author.Needs.{needs}
 use lib.ListN.{take}

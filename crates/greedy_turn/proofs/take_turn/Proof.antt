@@ -1,6 +1,5 @@
 -- `turns::take_turn` meets its contract: an open item is passed, a closed one is opened, and where a walk fits then the marks, the arcs and the rows are as before. Assumes nothing.
-use Prim.Native.Nat.{_*_}
-use mathlib.Core.Path.{_≡_, refl, sym, _∙_}
+use mathlib.Core.Path.{_≡_, refl, _∙_}
 use mathlib.Core.Bool.{true}
 use native.Mathlib.Omega.{arith}
 use borrow.Author.Needs.{needs}

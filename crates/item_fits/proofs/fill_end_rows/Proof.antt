@@ -6,10 +6,6 @@ use Rattle.item_fits.proofs.RowsLaws.{second-long, rows-ready}
 use borrow.Author.Needs.{needs}
 use Rattle.item_fits.proofs.fill_end_rows.Statement.{statement}
 use Rattle.item_fits.proofs.fill_end_rows.Tie as tie
-use Rattle.item_fits.proofs.fill_end_rows.Reads as reads
-use Rattle.item_fits.proofs.fill_end_rows.Lts as lts
-use Rattle.row_fill.proofs.row_from.Reads as row-from-reads
-use Rattle.row_fill.proofs.row_to.Reads as row-to-reads
 
 slice-relend-prefix-row-from : tie.Need-slice-relend-prefix-row-from
 slice-relend-prefix-row-from c = search needs

@@ -4,12 +4,6 @@ use Rattle.item_fits.proofs.FitLaws.{item-fits, row-at, back-at}
 use borrow.Author.Needs.{needs}
 use Rattle.item_fits.proofs.fits_item.Statement.{statement}
 use Rattle.item_fits.proofs.fits_item.Tie as tie
-use Rattle.item_fits.proofs.fits_item.Reads as reads
-use Rattle.item_fits.proofs.fits_item.Lts as lts
-use Rattle.goals.proofs.entry.Reads as entry-reads
-use Rattle.goals.proofs.exit.Reads as exit-reads
-use Rattle.goals.proofs.own.Reads as own-reads
-use Rattle.goals.proofs.sum.Reads as sum-reads
 
 entry-requires : tie.Need-entry-requires
 entry-requires c κs = let s = c .before .before .before in (λ i h. (s .pre .0 .whole .proper .tails i h, s .pre .0 .whole .proper .heads i h), s .pre .0 .whole .proper .few, omega (arith, s .pre .0 .whole .held .0))

@@ -12,11 +12,6 @@ use Rattle.pass.proofs.PassLaws.{bad-sheet, good-sheet}
 use borrow.Author.Needs.{needs}
 use Rattle.pass.proofs.pass.Statement.{statement}
 use Rattle.pass.proofs.pass.Tie as tie
-use Rattle.pass.proofs.pass.Reads as reads
-use Rattle.pass.proofs.pass.Lts as lts
-use Rattle.work.proofs.zero.Reads as zero-reads
-use Rattle.pass.proofs.write_answer.Reads as write-answer-reads
-use Rattle.sheet_reader.proofs.read.Reads as read-reads
 
 returns : tie.Need-returns
 unfolding passed

@@ -4,9 +4,6 @@ use Rattle.pass_marks.proofs.MarkingLaws.{forced-are}
 use borrow.Author.Needs.{needs}
 use Rattle.pass_marks.proofs.forced_nodes.Statement.{statement}
 use Rattle.pass_marks.proofs.forced_nodes.Tie as tie
-use Rattle.pass_marks.proofs.forced_nodes.Reads as reads
-use Rattle.pass_marks.proofs.forced_nodes.Lts as lts
-use Rattle.sheet_required.proofs.ends_of.Reads as ends-of-reads
 
 ends-of-requires : tie.Need-ends-of-requires
 ends-of-requires c κs = search needs

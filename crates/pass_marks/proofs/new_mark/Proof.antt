@@ -8,9 +8,6 @@ use Rattle.pass_marks.proofs.MarkingLaws.{mark-kept, mark-pruned, mark-
 use borrow.Author.Needs.{needs}
 use Rattle.pass_marks.proofs.new_mark.Statement.{statement}
 use Rattle.pass_marks.proofs.new_mark.Tie as tie
-use Rattle.pass_marks.proofs.new_mark.Reads as reads
-use Rattle.pass_marks.proofs.new_mark.Lts as lts
-use Rattle.item_fits.proofs.fits_item.Reads as fits-item-reads
 
 shared-slice-read-mark : tie.Need-shared-slice-read-mark
 shared-slice-read-mark c = search needs

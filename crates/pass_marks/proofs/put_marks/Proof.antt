@@ -6,10 +6,6 @@ use Rattle.sheet_required.specs.Held.{sheetOf}
 use Rattle.pass_marks.proofs.MarkingLaws.{Marking, marking-long, marking-more, marking-done}
 use Rattle.pass_marks.proofs.put_marks.Statement.{statement}
 use Rattle.pass_marks.proofs.put_marks.Tie as tie
-use Rattle.pass_marks.proofs.put_marks.Reads as reads
-use Rattle.pass_marks.proofs.put_marks.Lts as lts
-use Rattle.pass_marks.proofs.forced_nodes.Reads as forced-nodes-reads
-use Rattle.pass_marks.proofs.new_mark.Reads as new-mark-reads
 
 abbrev Inv-loop : tie.InvT-loop
 Inv-loop header arcs marks rows out₀ forced items i₀ out i = Marking (sheetOf header arcs marks) (header .nodes + header .arcs) out₀ out i

@@ -12,9 +12,6 @@ use Rattle.pass_marks.proofs.SlipLaws.{one-in, behind-one, zero-front}
 use borrow.Author.Needs.{needs}
 use Rattle.pass_marks.proofs.write_stands.Statement.{statement}
 use Rattle.pass_marks.proofs.write_stands.Tie as tie
-use Rattle.pass_marks.proofs.write_stands.Reads as reads
-use Rattle.pass_marks.proofs.write_stands.Lts as lts
-use Rattle.pass_marks.proofs.put_marks.Reads as put-marks-reads
 
 slice-write-slip : tie.Need-slice-write-slip
 slice-write-slip c = search needs

@@ -11,9 +11,6 @@ use Rattle.sheet_required.specs.Held.{sheetOf}
 use Rattle.pass_verdict.proofs.JudgeLaws.{first-is, none-is}
 use Rattle.pass_verdict.proofs.first_unmet.Statement.{statement}
 use Rattle.pass_verdict.proofs.first_unmet.Tie as tie
-use Rattle.pass_verdict.proofs.first_unmet.Reads as reads
-use Rattle.pass_verdict.proofs.first_unmet.Lts as lts
-use Rattle.pass_verdict.proofs.is_unmet.Reads as is-unmet-reads
 
 abbrev Inv-loop : tie.InvT-loop
 Inv-loop header arcs marks rows items i₀ i =

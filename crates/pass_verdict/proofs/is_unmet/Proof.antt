@@ -5,9 +5,6 @@ use Rattle.pass_verdict.proofs.JudgeLaws.{unmet-true, unmet-false}
 use borrow.Author.Needs.{needs}
 use Rattle.pass_verdict.proofs.is_unmet.Statement.{statement}
 use Rattle.pass_verdict.proofs.is_unmet.Tie as tie
-use Rattle.pass_verdict.proofs.is_unmet.Reads as reads
-use Rattle.pass_verdict.proofs.is_unmet.Lts as lts
-use Rattle.item_fits.proofs.fits_item.Reads as fits-item-reads
 
 shared-slice-read-if1 : tie.Need-shared-slice-read-if1
 shared-slice-read-if1 c = search needs

@@ -6,11 +6,6 @@ use Rattle.reason.proofs.ItemLaws.{not-standing, not-open, by-walks}
 use borrow.Author.Needs.{needs}
 use Rattle.reason.proofs.is_pruned.Statement.{statement}
 use Rattle.reason.proofs.is_pruned.Tie as tie
-use Rattle.reason.proofs.is_pruned.Reads as reads
-use Rattle.reason.proofs.is_pruned.Lts as lts
-use Rattle.item_fits.proofs.fill_end_rows.Reads as fill-end-rows-reads
-use Rattle.item_fits.proofs.fits_item.Reads as fits-item-reads
-use Rattle.pass_verdict.proofs.find_verdict.Reads as find-verdict-reads
 
 slice-aggregate-fill-end-rows : tie.Need-slice-aggregate-fill-end-rows
 slice-aggregate-fill-end-rows c = search needs

@@ -12,11 +12,6 @@ use Rattle.reason.proofs.SaidLaws.{bad-sheet, said}
 use borrow.Author.Needs.{needs}
 use Rattle.reason.proofs.reason.Statement.{statement}
 use Rattle.reason.proofs.reason.Tie as tie
-use Rattle.reason.proofs.reason.Reads as reads
-use Rattle.reason.proofs.reason.Lts as lts
-use Rattle.work.proofs.zero.Reads as zero-reads
-use Rattle.sheet_reader.proofs.read.Reads as read-reads
-use Rattle.reason.proofs.explain_item.Reads as explain-item-reads
 
 returns : tie.Need-returns
 unfolding reasoned

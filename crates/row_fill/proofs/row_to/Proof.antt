@@ -7,10 +7,6 @@ use Rattle.row_fill.proofs.TurnLaws.{turned-proper, row-to}
 use borrow.Author.Needs.{needs}
 use Rattle.row_fill.proofs.row_to.Statement.{statement}
 use Rattle.row_fill.proofs.row_to.Tie as tie
-use Rattle.row_fill.proofs.row_to.Reads as reads
-use Rattle.row_fill.proofs.row_to.Lts as lts
-use Rattle.row_fill.proofs.row_from.Reads as row-from-reads
-use Rattle.row_fill.proofs.turn.Reads as turn-reads
 
 slice-aggregate-turn : tie.Need-slice-aggregate-turn
 slice-aggregate-turn c = search needs

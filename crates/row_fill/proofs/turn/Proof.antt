@@ -10,8 +10,6 @@ use Rattle.row_fill.proofs.TurnLaws.{turned-more}
 use Rattle.row_spread.specs.Arcs.{TurnedTo}
 use Rattle.row_fill.proofs.turn.Statement.{statement}
 use Rattle.row_fill.proofs.turn.Tie as tie
-use Rattle.row_fill.proofs.turn.Reads as reads
-use Rattle.row_fill.proofs.turn.Lts as lts
 
 abbrev Inv-loop : tie.InvT-loop
 Inv-loop arcs back₀ m i₀ back i = (i ≤ length arcs / 3) × (length back ≡ length back₀) × TurnedTo i arcs back

@@ -1,12 +1,11 @@
 -- `reopen::mend_kept` meets its contract: a row of which the arc can cut no entry is left, and else it is kept before it is mended. Assumes nothing.
-use Prim.Native.Nat.{ℕ, _+_, _*_, _-_, _≤_}
-use mathlib.Core.Path.{_≡_, refl, sym, ap, _∙_}
+use Prim.Native.Nat.{ℕ, _+_, _*_, _-_}
+use mathlib.Core.Path.{_≡_, sym, ap, _∙_}
 use native.Mathlib.Omega.{arith}
 use borrow.Author.Needs.{needs}
-use borrow.Rule.Slice.PartMut.{mid-len, same-len-mid, postOf}
+use borrow.Rule.Slice.PartMut.{mid-len, postOf}
 use lib.ListN.{length, drop, take, length-drop}
 use lib.Seq.{length-take-le, take-all}
-use Rattle.rows.specs.Rows.{RowIs, rowAt}
 use Rattle.row_reopen.specs.Openings.{left, mended}
 use Rattle.row_reopen.proofs.SavesLaws.{part-row, row-kept, row-there, row-written}
 use borrow.Author.Tests.{not-true, not-false}

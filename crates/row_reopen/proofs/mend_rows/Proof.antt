@@ -2,7 +2,7 @@
 use Prim.Native.Nat.{ℕ, _*_, _-_, _≤_, _<_}
 use mathlib.Core.Path.{_≡_, refl, _∙_, subst}
 use native.Mathlib.Omega.{arith}
-use lib.ListN.{length, getD, take}
+use lib.ListN.{length, take}
 use Rattle.rows.specs.Net.{Net}
 use Rattle.rows.specs.Rows.{StartsOf, RowsSound, RowsAre}
 use Rattle.row_reopen.specs.Openings.{Saves, Kept, RowsMendable}

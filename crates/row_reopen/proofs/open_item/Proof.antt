@@ -1,6 +1,6 @@
 -- `reopen::open_item` meets its contract: a node opens with all rows mended, an arc with those that it cuts; an arc to a closed node changes nothing. Assumes nothing.
 use Prim.Native.Nat.{_*_, _-_, _<_}
-use mathlib.Core.Path.{_≡_, sym}
+use mathlib.Core.Path.{sym}
 use native.Mathlib.Omega.{arith}
 use borrow.Author.Needs.{needs}
 use borrow.Author.Tests.{eq-eqb, ne-eqb}

@@ -1,6 +1,6 @@
 -- `kept::copy_row` meets its contract. The loop's invariant: the first `v` numbers are copied. Assumes nothing.
 use Prim.Native.Nat.{_-_, _≤_}
-use mathlib.Core.Path.{_≡_, refl, ap, _∙_}
+use mathlib.Core.Path.{_≡_, refl}
 use native.Mathlib.Omega.{arith}
 use lib.ListN.{length, length-set}
 use Rattle.row_save.proofs.KeptLaws.{Copying, copy-begun, copy-more, copy-done}

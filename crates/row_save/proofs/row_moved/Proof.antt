@@ -1,6 +1,5 @@
 -- `kept::row_moved` meets its contract. The loop's invariant: the entries at the target and where the goals below `j` are entered are as kept. Assumes nothing.
-use Prim.Native.Nat.{ℕ, _+_, _*_, _-_, _≤_, _<_}
-use mathlib.Core.Path.{_≡_}
+use Prim.Native.Nat.{ℕ, _+_, _-_, _≤_, _<_}
 use mathlib.Core.Bool.{true≢false, false≢true}
 use native.Mathlib.Omega.{arith}
 use lib.ListN.{getD}
