@@ -3,3 +3,4 @@ pub mod MemberLaws
 pub mod Pigeonhole
 pub mod AscendLaws
 pub mod FrontLaws
+pub mod RowLaws

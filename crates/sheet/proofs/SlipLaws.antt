@@ -9,7 +9,9 @@ use lib.Dec.{leb}
 use borrow.Author.Tests.{le-leb, leb-true}
 use Rattle.lists.proofs.Pigeonhole.{Below, below-append, below-le}
 use Rattle.lists.proofs.TestLaws.{true-and, and-true}
-use Rattle.varint.proofs.VarintLaws.{number-back, numbers-back, numbers-size, numbers-append, got-number, after-got, number-got}
+use Rattle.varint.proofs.VarintLaws.{number-back, numbers-back, numbers-size, got-number, after-got, number-got}
+use Rattle.lists.proofs.RowLaws.{rows-append}
+use Rattle.varint.proofs.WriteLaws.{numbers-rows}
 use Rattle.varint.specs.Varint.{got, after, readNumber, number, writeNumber, writeNumbers, refuse, Read}
 use Rattle.sheet.specs.Slip.{Slip, slipNumbers, slipBytes, marksBytes, readList, slipEnd, slipReasons, slipGoals, as17, readSlip}
 
@@ -59,7 +61,7 @@ slip-back s b =
     let r : Below 268435456 (s .reasons) = below-le 16384 268435456 (s .reasons) (omega arith) (b .reasons) in
     let tail : List ℕ = writeNumbers (length (s .reasons) ∷ s .reasons) in
     let e : slipBytes s ≡ writeNumber (s .first) ++ (writeNumbers (length (s .goals) ∷ s .goals) ++ tail) =
-    unfold slipBytes slipNumbers writeNumbers in ap (λ (bs : List ℕ). writeNumber (s .first) ++ bs) (numbers-append (length (s .goals) ∷ s .goals) (length (s .reasons) ∷ s .reasons)) in
+    unfold slipBytes slipNumbers writeNumbers in ap (λ (bs : List ℕ). writeNumber (s .first) ++ bs) (rows-append numbers-rows (length (s .goals) ∷ s .goals) (length (s .reasons) ∷ s .reasons)) in
     let first : number 17 (λ x. leb 1 x && leb x 4) (slipBytes s) ≡ got (s .first) (writeNumbers (length (s .goals) ∷ s .goals) ++ tail) =
     got-number 17 (λ x. leb 1 x && leb x 4) (slipBytes s) (s .first) (writeNumbers (length (s .goals) ∷ s .goals) ++ tail)
     (ap readNumber e ∙ number-back (s .first) (writeNumbers (length (s .goals) ∷ s .goals) ++ tail) (omega (arith, b .high)))

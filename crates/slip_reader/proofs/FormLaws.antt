@@ -13,7 +13,8 @@ use Rattle.lists.proofs.Pigeonhole.{Below}
 use Rattle.lists.proofs.TestLaws.{and-true, true-and}
 use Rattle.varint.specs.Varint.{Read, got, refuse, after, readNumber, number, judged, several, writeNumber, writeNumbers}
 use Rattle.varint.specs.Answer.{small}
-use Rattle.varint.proofs.WriteLaws.{numbers-append}
+use Rattle.lists.proofs.RowLaws.{rows-append}
+use Rattle.varint.proofs.WriteLaws.{numbers-rows}
 use Rattle.sheet.specs.Slip.{slipNumbers, slipBytes, marksBytes, readList, slipEnd, slipReasons, slipGoals, as17, readSlip}
 use Rattle.slip_reader.specs.Form.{slipFrom, listBytes, listsOf}
 
@@ -28,7 +29,7 @@ list-parts xs = refl
 pub slip-parts : (v : ℕ) (gs rs : List ℕ) → slipBytes (slipFrom v gs rs) ≡ (writeNumber v ++ listBytes gs) ++ listBytes rs
 unfolding slipBytes slipNumbers listBytes writeNumbers
 slip-parts v gs rs =
-    ap (λ (bs : List ℕ). writeNumber v ++ bs) (numbers-append (length gs ∷ gs) (length rs ∷ rs))
+    ap (λ (bs : List ℕ). writeNumber v ++ bs) (rows-append numbers-rows (length gs ∷ gs) (length rs ∷ rs))
     ∙ sym (append-assoc (writeNumber v) (writeNumbers (length gs ∷ gs)) (writeNumbers (length rs ∷ rs)))
 
 pub small-cons : (x : ℕ) (xs : List ℕ) → small (x ∷ xs) ≡ true → (x < 268435456) × (small xs ≡ true)

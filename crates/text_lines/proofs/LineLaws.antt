@@ -1,16 +1,17 @@
 -- Laws of lines: a number's digits by its last one, and rows and words as they grow. Assumes nothing.
-use Prim.Native.Nat.{ℕ, zero, suc, _+_, _-_, _*_, _/_, _%_, _≤_, _<_}
+use Prim.Native.Nat.{ℕ, zero, suc, _+_, _*_, _/_, _%_, _≤_, _<_}
 use mathlib.Core.Path.{_≡_, refl, ap, sym, _∙_}
-use mathlib.Core.List.{List, [], _∷_, _++_, append-assoc, append-nil}
+use mathlib.Core.List.{List, [], _∷_, _++_}
 use mathlib.Core.Bool.{Bool, true, false}
 use native.Mathlib.Omega.{arith}
 use native.Mathlib.Numerals.{add-one}
 use lib.Dec.{ltb}
 use borrow.Author.Tests.{lt-ltb, le-ltb, ltb-true, ltb-false}
-use lib.ListN.{length, getD, set, take, drop, length-append, length-take, length-set}
-use lib.Seq.{take-nil, take-suc, take-all}
+use lib.ListN.{length, getD, set, take, length-append, length-take, length-set}
+use lib.Seq.{take-suc, take-all}
 use Rattle.lists.specs.Lists.{pick, front}
-use Rattle.lists.proofs.FrontLaws.{length-front, push-at, part-front, Put, put}
+use Rattle.lists.proofs.FrontLaws.{length-front, push-at, Put, put}
+use Rattle.lists.proofs.RowLaws.{Rows}
 use Rattle.text_lines.specs.Lines.{digits, decimal, spaced, row, line}
 
 digits-few : (k n : ℕ) → n < 10 → digits k n ≡ (48 + n) ∷ []
@@ -105,59 +106,10 @@ module _ {word d out : List ℕ} {i : ℕ} (w : Copied word d out i) (fits : len
   pub copied-done : length word ≤ i → (i ≡ length word) × (out ≡ front word d)
   copied-done h = (omega (arith, w .few), w .holds ∙ ap (λ (xs : List ℕ). front xs d) (take-all i word h))
 
-row-append : (xs ys : List ℕ) → row (xs ++ ys) ≡ row xs ++ row ys
+-- a row is written number by number, each behind its space
+pub spaced-rows : Rows spaced row
 unfolding row
-row-append [] ys = refl
-row-append (x ∷ xs) ys = rw (row-append xs ys) (sym (append-assoc (spaced x) (row xs) (row ys)))
-
-row-one : (x : ℕ) → row (x ∷ []) ≡ spaced x
-unfolding row
-row-one x = append-nil (spaced x)
-
-row-mono : (l : List ℕ) (j : ℕ) → length (row (take j l)) ≤ length (row l)
-unfolding row
-row-mono [] j = rw take-nil (omega arith)
-row-mono (x ∷ l) zero = omega arith
-row-mono (x ∷ l) (suc j) = let q = row-mono l j in simp length-append (omega arith)
-
-row-next : (l : List ℕ) (j : ℕ) → j < length l → row (take (j + 1) l) ≡ row (take j l) ++ spaced (getD l j 0)
-row-next l j h =
-    rw (add-one j, take-suc l j 0 h) (row-append (take j l) (getD l j 0 ∷ []) ∙ ap (λ (ys : List ℕ). row (take j l) ++ ys) (row-one (getD l j 0)))
-
--- the first j numbers of l were written over the front of d, up to `at`
-pub record Row (l d out : List ℕ) (at j : ℕ) : Type 0 where
-  pub few : j ≤ length l
-  pub at-end : at ≡ length (row (take j l))
-  pub holds : out ≡ front (row (take j l)) d
-
-pub begun : (l d : List ℕ) → Row l d d 0 0
-unfolding row
-begun l d = record { few = omega arith; at-end = refl; holds = refl }
-
-module _ {l d out : List ℕ} {at j : ℕ} (w : Row l d out at j) (fits : length (row l) ≤ length d) where
-  pub row-kept : length out ≡ length d
-  row-kept = ap length (w .holds) ∙ length-front (row (take j l)) d (omega (arith, row-mono l j))
-
-  pub row-room : j < length l → at + length (spaced (getD l j 0)) ≤ length d
-  row-room h = omega (arith, row-mono l (j + 1), simp length-append at (ap length (row-next l j h)), w .at-end)
-
-  pub row-more :
-      (ys : List ℕ) (k : ℕ) → j < length l → k ≡ length (spaced (getD l j 0))
-      → ys ≡ front (spaced (getD l j 0)) (take (length out - at) (drop at out))
-      → Row l d (take at out ++ (ys ++ drop (length out - at) (drop at out))) (at + k) (j + 1)
-  row-more ys k h e y =
-      record {
-        few = omega arith;
-        at-end = rw (row-next l j h, length-append) (omega (arith, w .at-end));
-        holds =
-            rw (row-next l j h)
-            (part-front (row (take j l)) (spaced (getD l j 0)) d out at ys (w .at-end) (w .holds) (omega (arith, row-mono l j)) y);
-      }
-
-  pub row-done : length l ≤ j → (at ≡ length (row l)) × (out ≡ front (row l) d)
-  row-done h =
-      let e : take j l ≡ l = take-all j l (omega arith) in
-      (w .at-end ∙ ap (λ (ys : List ℕ). length (row ys)) e, w .holds ∙ ap (λ (ys : List ℕ). front (row ys) d) e)
+spaced-rows = record { empty = refl; first = λ x xs. refl }
 
 -- the word and the numbers behind it stand in front, and the line's end goes behind them
 module _ (word xs d : List ℕ) (fits : length (line word xs) ≤ length d) where

@@ -57,8 +57,8 @@ last-needless : (left b : ℕ) (bs : List ℕ) → b ≡ 0 → left < 3 → last
 unfolding lastGroup
 last-needless left b bs z l = simp (z, lt-ltb _ _ l)
 
--- the weight of the highest group, where `left` groups more can follow
-abbrev weights : ℕ → ℕ
+-- the weight of the highest group, where `left` groups more can follow; and one more than the greatest number of so many groups
+abbrev pub weights : ℕ → ℕ
 weights zero = 1
 weights (suc n) = 128 * weights n
 

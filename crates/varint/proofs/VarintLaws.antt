@@ -9,15 +9,10 @@ use lib.Dec.{eqb, ltb}
 use borrow.Author.Tests.{ltb-true, ltb-false, le-ltb, lt-ltb}
 use Rattle.lists.specs.Lists.{pick}
 use Rattle.lists.proofs.Pigeonhole.{Below, below-append}
-use Rattle.varint.proofs.ReadLaws.{last-kept}
+use Rattle.varint.proofs.ReadLaws.{last-kept, weights}
 use Rattle.varint.specs.Varint.{Read, got, refuse, after, lastGroup, above, readGroups, readNumber, judged, number, several, writeGroups, writeNumber, writeNumbers}
 
--- what k + 1 groups hold
-abbrev cap : ℕ → ℕ
-cap zero = 128
-cap (suc k) = 128 * cap k
-
-groups-back : (k x : ℕ) (t : List ℕ) → x < cap k → (x ≡ 0 → 3 ≤ k) → readGroups k (writeGroups k x ++ t) ≡ got x t
+groups-back : (k x : ℕ) (t : List ℕ) → x < weights (suc k) → (x ≡ 0 → 3 ≤ k) → readGroups k (writeGroups k x ++ t) ≡ got x t
 unfolding readGroups writeGroups above
 groups-back zero x t h f = let z : ltb x 128 ≡ true = lt-ltb x 128 h in rw z (last-kept zero x t f)
 groups-back (suc k) x t h f = go (ltb x 128) refl (groups-back k (x / 128) t (omega arith))
@@ -155,9 +150,3 @@ numbers-size (x ∷ xs) h =
     let s = number-size x (h .0) in
     let i = numbers-size xs (h .1) in
     (omega (arith, length-append (writeNumber x) (writeNumbers xs), s .0, i .0), below-append 256 (writeNumber x) (writeNumbers xs) (s .1) (i .1))
-
--- rows of numbers written one after the other
-pub numbers-append : (xs ys : List ℕ) → writeNumbers (xs ++ ys) ≡ writeNumbers xs ++ writeNumbers ys
-unfolding writeNumbers
-numbers-append [] ys = refl
-numbers-append (x ∷ xs) ys = rw (append-assoc, numbers-append xs ys)

@@ -1,17 +1,18 @@
 -- Laws of writing numbers group by group over the front of a list. Assumes nothing.
-use Prim.Native.Nat.{ℕ, zero, suc, _+_, _-_, _*_, _≤_, _<_, _/_, _%_}
+use Prim.Native.Nat.{ℕ, zero, suc, _+_, _≤_, _<_, _/_, _%_}
 use mathlib.Core.Path.{_≡_, refl, ap, sym, _∙_}
-use mathlib.Core.List.{List, [], _∷_, _++_, append-assoc, append-nil}
+use mathlib.Core.List.{List, [], _∷_, _++_}
 use mathlib.Core.Bool.{Bool, true, false}
 use native.Mathlib.Omega.{arith}
 use lib.Dec.{ltb}
-use native.Mathlib.Numerals.{add-one}
 use borrow.Author.Tests.{lt-ltb, le-ltb, ltb-true}
-use lib.ListN.{length, getD, set, take, drop, length-append}
-use lib.Seq.{append-snoc, take-nil, take-suc, take-all}
+use lib.ListN.{length, getD, set, length-append}
+use lib.Seq.{append-snoc}
 use Rattle.lists.specs.Lists.{pick, front, every}
 use Rattle.lists.proofs.TestLaws.{and-true}
-use Rattle.lists.proofs.FrontLaws.{length-front, push-at, part-front}
+use Rattle.lists.proofs.FrontLaws.{length-front, push-at}
+use Rattle.lists.proofs.RowLaws.{Rows}
+use Rattle.varint.proofs.ReadLaws.{weights}
 use Rattle.varint.specs.Varint.{writeGroups, writeNumber, writeNumbers}
 use Rattle.varint.specs.Answer.{small}
 
@@ -33,11 +34,6 @@ groups-some (suc k) x = go (ltb x 128)
     go true = omega arith
     go false = omega arith
 
--- one more than the greatest number of k + 1 groups
-abbrev limits : ℕ → ℕ
-limits zero = 128
-limits (suc n) = 128 * limits n
-
 -- i groups of x were written over the front of d, and `rest` is what remains of x
 pub record Writing (x : ℕ) (d out : List ℕ) (rest i : ℕ) : Type 0 where
   pub xs : List ℕ
@@ -45,7 +41,7 @@ pub record Writing (x : ℕ) (d out : List ℕ) (rest i : ℕ) : Type 0 where
   pub size : length xs ≡ i
   pub holds : out ≡ front xs d
   pub same : writeNumber x ≡ xs ++ writeGroups k rest
-  pub small : rest < limits k
+  pub small : rest < weights (suc k)
 
 pub begun : (x : ℕ) (d : List ℕ) → x < 268435456 → Writing x d d x 0
 unfolding writeNumber
@@ -67,7 +63,7 @@ module _ {x : ℕ} {d out : List ℕ} {rest i : ℕ} (w : Writing x d out rest i
 
 more-at :
     {x : ℕ} {d out : List ℕ} {rest i : ℕ} (k : ℕ) (xs : List ℕ) → length xs ≡ i → out ≡ front xs d → writeNumber x ≡ xs ++ writeGroups k rest
-    → rest < limits k → i < length d → 127 < rest → Writing x d (set out i (128 + rest % 128)) (rest / 128) (i + 1)
+    → rest < weights (suc k) → i < length d → 127 < rest → Writing x d (set out i (128 + rest % 128)) (rest / 128) (i + 1)
 more-at zero xs l e s m h g = absurd (omega arith)
 more-at {rest = rest} {i = i} (suc k) xs l e s m h g =
     record {
@@ -90,56 +86,7 @@ small-at [] i e h = absurd (omega arith)
 small-at (x ∷ xs) zero e h = ltb-true x 268435456 (and-true (ltb x 268435456) _ e .0)
 small-at (x ∷ xs) (suc i) e h = small-at xs i (and-true (ltb x 268435456) _ e .1) (omega arith)
 
-pub numbers-append : (xs ys : List ℕ) → writeNumbers (xs ++ ys) ≡ writeNumbers xs ++ writeNumbers ys
+-- numbers in a row are written number by number
+pub numbers-rows : Rows writeNumber writeNumbers
 unfolding writeNumbers
-numbers-append [] ys = refl
-numbers-append (x ∷ xs) ys = rw (numbers-append xs ys) (sym (append-assoc (writeNumber x) (writeNumbers xs) (writeNumbers ys)))
-
-numbers-one : (x : ℕ) → writeNumbers (x ∷ []) ≡ writeNumber x
-unfolding writeNumbers
-numbers-one x = append-nil (writeNumber x)
-
-numbers-mono : (l : List ℕ) (j : ℕ) → length (writeNumbers (take j l)) ≤ length (writeNumbers l)
-unfolding writeNumbers
-numbers-mono [] j = rw take-nil (omega arith)
-numbers-mono (x ∷ l) zero = omega arith
-numbers-mono (x ∷ l) (suc j) = let q = numbers-mono l j in simp length-append (omega arith)
-
-numbers-next : (l : List ℕ) (j : ℕ) → j < length l → writeNumbers (take (j + 1) l) ≡ writeNumbers (take j l) ++ writeNumber (getD l j 0)
-numbers-next l j h =
-    rw (add-one j, take-suc l j 0 h) (numbers-append (take j l) (getD l j 0 ∷ []) ∙ ap (λ (ys : List ℕ). writeNumbers (take j l) ++ ys) (numbers-one (getD l j 0)))
-
--- the first j numbers of l were written over the front of d, up to `at`
-pub record Row (l d out : List ℕ) (at j : ℕ) : Type 0 where
-  pub few : j ≤ length l
-  pub at-end : at ≡ length (writeNumbers (take j l))
-  pub holds : out ≡ front (writeNumbers (take j l)) d
-
-pub row : (l d : List ℕ) → Row l d d 0 0
-unfolding writeNumbers
-row l d = record { few = omega arith; at-end = refl; holds = refl }
-
-module _ {l d out : List ℕ} {at j : ℕ} (w : Row l d out at j) (fits : length (writeNumbers l) ≤ length d) where
-  pub row-kept : length out ≡ length d
-  row-kept = ap length (w .holds) ∙ length-front (writeNumbers (take j l)) d (omega (arith, numbers-mono l j))
-
-  pub row-room : j < length l → at + length (writeNumber (getD l j 0)) ≤ length d
-  row-room h = omega (arith, numbers-mono l (j + 1), simp length-append at (ap length (numbers-next l j h)), w .at-end)
-
-  pub row-more :
-      (ys : List ℕ) (k : ℕ) → j < length l → k ≡ length (writeNumber (getD l j 0))
-      → ys ≡ front (writeNumber (getD l j 0)) (take (length out - at) (drop at out))
-      → Row l d (take at out ++ (ys ++ drop (length out - at) (drop at out))) (at + k) (j + 1)
-  row-more ys k h e y =
-      record {
-        few = omega arith;
-        at-end = rw (numbers-next l j h, length-append) (omega (arith, w .at-end));
-        holds =
-            rw (numbers-next l j h)
-            (part-front (writeNumbers (take j l)) (writeNumber (getD l j 0)) d out at ys (w .at-end) (w .holds) (omega (arith, numbers-mono l j)) y);
-      }
-
-  pub row-done : length l ≤ j → (at ≡ length (writeNumbers l)) × (out ≡ front (writeNumbers l) d)
-  row-done h =
-      let e : take j l ≡ l = take-all j l (omega arith) in
-      (w .at-end ∙ ap (λ (ys : List ℕ). length (writeNumbers ys)) e, w .holds ∙ ap (λ (ys : List ℕ). front (writeNumbers ys) d) e)
+numbers-rows = record { empty = refl; first = λ x xs. refl }

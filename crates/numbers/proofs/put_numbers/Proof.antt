@@ -2,28 +2,30 @@
 use borrow.Author.Needs.{needs}
 use Prim.Native.Nat.{_-_}
 use native.Mathlib.Omega.{arith}
-use lib.ListN.{length, length-take, length-drop}
-use Rattle.varint.proofs.WriteLaws.{Row, row, row-kept, row-room, row-more, row-done, small-at}
+use lib.ListN.{length}
+use Rattle.lists.proofs.RowLaws.{Row, begun, row-kept, row-within, row-room, part-room, row-more, row-done}
+use Rattle.varint.specs.Varint.{writeNumber, writeNumbers}
+use Rattle.varint.proofs.WriteLaws.{numbers-rows, small-at}
 use Rattle.numbers.proofs.put_numbers.Statement.{statement}
 use Rattle.numbers.proofs.put_numbers.Tie as tie
 
 abbrev Inv-loop : tie.InvT-loop
-Inv-loop out₀ numbers at₀ j₀ out at j = Row numbers out₀ out at j
+Inv-loop out₀ numbers at₀ j₀ out at j = Row writeNumber writeNumbers numbers out₀ out at j
 
 abbrev μ-loop : tie.MeasureT-loop
 μ-loop out₀ numbers at₀ j₀ out at j = length numbers - j
 
 loop-holds : tie.Need-loop-holds Inv-loop μ-loop
-loop-holds c = row _ _
+loop-holds c = begun _ _ numbers-rows (c .before .before .pre .1)
 
 sub-put-number : tie.Need-sub-put-number Inv-loop μ-loop
-sub-put-number c = omega (arith, row-kept (c .before .loop .inv) (c .before .before .before .before .pre .1), row-room (c .before .loop .inv) (c .before .before .before .before .pre .1) (c .loop-test .taken))
+sub-put-number c = row-within (c .before .loop .inv)
 
 part-put-number-start : tie.Need-part-put-number-start Inv-loop μ-loop
-part-put-number-start c = omega (arith, row-kept (c .before .loop .inv) (c .before .before .before .before .pre .1), row-room (c .before .loop .inv) (c .before .before .before .before .pre .1) (c .loop-test .taken))
+part-put-number-start c = row-within (c .before .loop .inv)
 
 part-put-number-end : tie.Need-part-put-number-end Inv-loop μ-loop
-part-put-number-end c = omega (arith, row-kept (c .before .loop .inv) (c .before .before .before .before .pre .1))
+part-put-number-end c = omega arith
 
 mul-put-number : tie.Need-mul-put-number Inv-loop μ-loop
 mul-put-number c = omega arith
@@ -32,13 +34,10 @@ shared-slice-read-put-number : tie.Need-shared-slice-read-put-number Inv-loop μ
 shared-slice-read-put-number c = search needs
 
 put-number-requires : tie.Need-put-number-requires Inv-loop μ-loop
-put-number-requires c κs = (
-  small-at (c .before .before .before .before .before .before .args .numbers .now) (c .before .before .before .loop .j) (c .before .before .before .before .before .before .pre .0) (c .before .before .loop-test .taken),
-  simp (length-take, length-drop) (omega (arith, row-kept (c .before .before .before .loop .inv) (c .before .before .before .before .before .before .pre .1), row-room (c .before .before .before .loop .inv) (c .before .before .before .before .before .before .pre .1) (c .before .before .loop-test .taken))),
-)
+put-number-requires c κs = (small-at (c .before .before .before .before .before .before .args .numbers .now) (c .before .before .before .loop .j) (c .before .before .before .before .before .before .pre .0) (c .before .before .loop-test .taken), part-room (c .before .before .before .loop .inv) (c .before .before .loop-test .taken))
 
 add-at : tie.Need-add-at Inv-loop μ-loop
-add-at c = omega (arith, row-room (c .before .before .before .before .before .before .loop .inv) (c .before .before .before .before .before .before .before .before .before .pre .1) (c .before .before .before .before .before .loop-test .taken), c .before .before .put-number .ensures .0)
+add-at c = omega (arith, row-room (c .before .before .before .before .before .before .loop .inv) (c .before .before .before .before .before .loop-test .taken), c .before .before .put-number .ensures .0)
 
 add-j : tie.Need-add-j Inv-loop μ-loop
 add-j c = search needs
@@ -47,13 +46,13 @@ loop-less : tie.Need-loop-less Inv-loop μ-loop
 loop-less c = search needs
 
 loop-again : tie.Need-loop-again Inv-loop μ-loop
-loop-again c = row-more (c .before .before .before .before .before .before .loop .inv) (c .before .before .before .before .before .before .before .before .before .pre .1) _ _ (c .before .before .before .before .before .loop-test .taken) (c .before .before .put-number .ensures .0) (c .before .before .put-number .ensures .1)
+loop-again c = row-more (c .before .before .before .before .before .before .loop .inv) (c .before .before .before .before .before .loop-test .taken) (c .before .before .put-number .ensures .0) (c .before .before .put-number .ensures .1)
 
 same-length : tie.Need-same-length Inv-loop μ-loop
-same-length c = row-kept (c .before .loop .inv) (c .before .before .before .before .pre .1)
+same-length c = row-kept (c .before .loop .inv)
 
 returns : tie.Need-returns Inv-loop μ-loop
-returns c = row-done (c .before .loop .inv) (c .before .before .before .before .pre .1) (c .loop-test .left)
+returns c = row-done (c .before .loop .inv) (c .loop-test .left)
 
 pub put-numbers-spec : {M : Type 1} → statement M
 put-numbers-spec =

@@ -2,29 +2,31 @@
 use borrow.Author.Needs.{needs}
 use Prim.Native.Nat.{_-_}
 use native.Mathlib.Omega.{arith}
-use lib.ListN.{length, length-take, length-drop}
+use lib.ListN.{length}
+use Rattle.lists.proofs.RowLaws.{Row, begun, row-kept, row-within, row-room, part-room, row-more, row-done}
 use Rattle.varint.proofs.WriteLaws.{small-at}
-use Rattle.text_lines.proofs.LineLaws.{Row, begun, row-kept, row-room, row-more, row-done}
+use Rattle.text_lines.specs.Lines.{spaced, row}
+use Rattle.text_lines.proofs.LineLaws.{spaced-rows}
 use Rattle.text_lines.proofs.put_row.Statement.{statement}
 use Rattle.text_lines.proofs.put_row.Tie as tie
 
 abbrev Inv-loop : tie.InvT-loop
-Inv-loop out₀ numbers at₀ j₀ out at j = Row numbers out₀ out at j
+Inv-loop out₀ numbers at₀ j₀ out at j = Row spaced row numbers out₀ out at j
 
 abbrev μ-loop : tie.MeasureT-loop
 μ-loop out₀ numbers at₀ j₀ out at j = length numbers - j
 
 loop-holds : tie.Need-loop-holds Inv-loop μ-loop
-loop-holds c = begun _ _
+loop-holds c = begun _ _ spaced-rows (c .before .before .pre .1)
 
 sub-put-spaced : tie.Need-sub-put-spaced Inv-loop μ-loop
-sub-put-spaced c = omega (arith, row-kept (c .before .loop .inv) (c .before .before .before .before .pre .1), row-room (c .before .loop .inv) (c .before .before .before .before .pre .1) (c .loop-test .taken))
+sub-put-spaced c = row-within (c .before .loop .inv)
 
 part-put-spaced-start : tie.Need-part-put-spaced-start Inv-loop μ-loop
-part-put-spaced-start c = omega (arith, row-kept (c .before .loop .inv) (c .before .before .before .before .pre .1), row-room (c .before .loop .inv) (c .before .before .before .before .pre .1) (c .loop-test .taken))
+part-put-spaced-start c = row-within (c .before .loop .inv)
 
 part-put-spaced-end : tie.Need-part-put-spaced-end Inv-loop μ-loop
-part-put-spaced-end c = omega (arith, row-kept (c .before .loop .inv) (c .before .before .before .before .pre .1))
+part-put-spaced-end c = omega arith
 
 mul-put-spaced : tie.Need-mul-put-spaced Inv-loop μ-loop
 mul-put-spaced c = omega arith
@@ -36,11 +38,10 @@ cast-put-spaced : tie.Need-cast-put-spaced Inv-loop μ-loop
 cast-put-spaced c = omega (arith, small-at (c .before .before .before .before .before .before .args .numbers .now) (c .before .before .before .loop .j) (c .before .before .before .before .before .before .pre .0) (c .before .before .loop-test .taken))
 
 put-spaced-requires : tie.Need-put-spaced-requires Inv-loop μ-loop
-put-spaced-requires c κs =
-    simp (length-take, length-drop) (omega (arith, row-kept (c .before .before .before .loop .inv) (c .before .before .before .before .before .before .pre .1), row-room (c .before .before .before .loop .inv) (c .before .before .before .before .before .before .pre .1) (c .before .before .loop-test .taken)))
+put-spaced-requires c κs = part-room (c .before .before .before .loop .inv) (c .before .before .loop-test .taken)
 
 add-at : tie.Need-add-at Inv-loop μ-loop
-add-at c = omega (arith, row-room (c .before .before .before .before .before .before .loop .inv) (c .before .before .before .before .before .before .before .before .before .pre .1) (c .before .before .before .before .before .loop-test .taken), c .before .before .put-spaced .ensures .0)
+add-at c = omega (arith, row-room (c .before .before .before .before .before .before .loop .inv) (c .before .before .before .before .before .loop-test .taken), c .before .before .put-spaced .ensures .0)
 
 add-j : tie.Need-add-j Inv-loop μ-loop
 add-j c = search needs
@@ -49,13 +50,13 @@ loop-less : tie.Need-loop-less Inv-loop μ-loop
 loop-less c = search needs
 
 loop-again : tie.Need-loop-again Inv-loop μ-loop
-loop-again c = row-more (c .before .before .before .before .before .before .loop .inv) (c .before .before .before .before .before .before .before .before .before .pre .1) _ _ (c .before .before .before .before .before .loop-test .taken) (c .before .before .put-spaced .ensures .0) (c .before .before .put-spaced .ensures .1)
+loop-again c = row-more (c .before .before .before .before .before .before .loop .inv) (c .before .before .before .before .before .loop-test .taken) (c .before .before .put-spaced .ensures .0) (c .before .before .put-spaced .ensures .1)
 
 same-length : tie.Need-same-length Inv-loop μ-loop
-same-length c = row-kept (c .before .loop .inv) (c .before .before .before .before .pre .1)
+same-length c = row-kept (c .before .loop .inv)
 
 returns : tie.Need-returns Inv-loop μ-loop
-returns c = row-done (c .before .loop .inv) (c .before .before .before .before .pre .1) (c .loop-test .left)
+returns c = row-done (c .before .loop .inv) (c .loop-test .left)
 
 pub put-row-spec : {M : Type 1} → statement M
 put-row-spec =

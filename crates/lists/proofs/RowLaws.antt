@@ -1,0 +1,74 @@
+-- Numbers written one after the other over the front of a list, each in bytes of its own: laws for every way of writing one number.
+-- Assumes nothing.
+use Prim.Native.Nat.{ℕ, _+_, _-_, _≤_, _<_}
+use mathlib.Core.Path.{_≡_, refl, ap, sym, _∙_}
+use mathlib.Core.List.{List, [], _∷_, _++_, append-assoc, append-nil}
+use native.Mathlib.Omega.{arith}
+use native.Mathlib.Numerals.{add-one}
+use lib.ListN.{length, getD, take, drop, length-append, take-append-drop}
+use lib.Seq.{take-suc, take-all}
+use Rattle.lists.specs.Lists.{front}
+use Rattle.lists.proofs.FrontLaws.{Put, put, put-kept, put-within, put-room, put-on}
+
+-- `row` writes numbers in a row, each as `one` writes it
+pub record Rows (one : ℕ → List ℕ) (row : List ℕ → List ℕ) : Type 0 where
+  pub empty : row [] ≡ []
+  pub first : (x : ℕ) (xs : List ℕ) → row (x ∷ xs) ≡ one x ++ row xs
+
+module _ {one : ℕ → List ℕ} {row : List ℕ → List ℕ} (R : Rows one row) where
+  pub rows-append : (xs ys : List ℕ) → row (xs ++ ys) ≡ row xs ++ row ys
+  rows-append [] ys = rw (R .empty)
+  rows-append (x ∷ xs) ys = rw (R .first, R .first, rows-append xs ys) (sym (append-assoc (one x) (row xs) (row ys)))
+
+  rows-next : (l : List ℕ) (j : ℕ) → j < length l → row (take (j + 1) l) ≡ row (take j l) ++ one (getD l j 0)
+  rows-next l j h =
+      rw (add-one j, take-suc l j 0 h, rows-append (take j l) (getD l j 0 ∷ []), R .first, R .empty, append-nil)
+
+  rows-part : (l : List ℕ) (j : ℕ) → length (row (take j l)) ≤ length (row l)
+  rows-part l j =
+      omega (arith, ap (λ (xs : List ℕ). length (row xs)) (take-append-drop j l), ap length (rows-append (take j l) (drop j l)) ∙ length-append (row (take j l)) (row (drop j l)))
+
+-- the first j numbers of l were written over the front of d, up to `at`, and there is room for all
+pub record Row (one : ℕ → List ℕ) (row : List ℕ → List ℕ) (l d out : List ℕ) (at j : ℕ) : Type 0 where
+  pub rows : Rows one row
+  pub fits : length (row l) ≤ length d
+  pub few : j ≤ length l
+  pub written : Put (row (take j l)) d out at
+
+pub begun : {one : ℕ → List ℕ} {row : List ℕ → List ℕ} (l d : List ℕ) → Rows one row → length (row l) ≤ length d → Row one row l d d 0 0
+begun l d R h = record { rows = R; fits = h; few = omega arith; written = rw (R .empty) (put [] d refl refl) }
+
+module _ {one : ℕ → List ℕ} {row : List ℕ → List ℕ} {l d out : List ℕ} {at j : ℕ} (w : Row one row l d out at j) where
+  row-fits : length (row (take j l) ++ []) ≤ length d
+  row-fits = rw append-nil (omega (arith, rows-part (w .rows) l j, w .fits))
+
+  pub row-kept : length out ≡ length d
+  row-kept = put-kept (w .written) [] row-fits
+
+  pub row-within : at ≤ length out
+  row-within = put-within (w .written) [] row-fits
+
+  module _ (h : j < length l) where
+    next-fits : length (row (take j l) ++ one (getD l j 0)) ≤ length d
+    next-fits = rw (← rows-next (w .rows) l j h) (omega (arith, rows-part (w .rows) l (j + 1), w .fits))
+
+    -- the next number fits behind `at`
+    pub row-room : at + length (one (getD l j 0)) ≤ length d
+    row-room = omega (arith, next-fits, length-append (row (take j l)) (one (getD l j 0)), w .written .at-end)
+
+    pub part-room : length (one (getD l j 0)) ≤ length (take (length out - at) (drop at out))
+    part-room = put-room (w .written) (one (getD l j 0)) next-fits
+
+    pub row-more :
+        {ys : List ℕ} {k : ℕ} → k ≡ length (one (getD l j 0)) → ys ≡ front (one (getD l j 0)) (take (length out - at) (drop at out))
+        → Row one row l d (take at out ++ (ys ++ drop (length out - at) (drop at out))) (at + k) (j + 1)
+    row-more e y =
+        record {
+          rows = w .rows;
+          fits = w .fits;
+          few = omega arith;
+          written = rw (rows-next (w .rows) l j h) (put-on (w .written) (one (getD l j 0)) next-fits e y);
+        }
+
+  pub row-done : length l ≤ j → (at ≡ length (row l)) × (out ≡ front (row l) d)
+  row-done h = let p : Put (row l) d out at = rw (take-all j l h) at (w .written) in (p .at-end, p .holds)
