@@ -4,7 +4,7 @@ use mathlib.Core.Path.{_≡_, refl, ap, sym, _∙_}
 use mathlib.Core.List.{List, [], _∷_, _++_, append-assoc, append-nil}
 use native.Mathlib.Omega.{arith}
 use native.Mathlib.Numerals.{add-one}
-use lib.ListN.{length, take, drop, set, drop-of-length-le, length-append, length-take, length-drop}
+use lib.ListN.{length, take, drop, set, drop-of-length-le, length-append, length-take, length-drop, length-set}
 use lib.Seq.{drop-cons, set-append-seam, append-snoc, take-all, take-at, drop-at, drop-drop}
 use Rattle.lists.specs.Lists.{front}
 
@@ -34,33 +34,54 @@ part-front xs vs d out at ys a e h y =
     let l : length (xs ++ vs) ≡ at + length vs = simp length-append (omega arith) in
     rw (y, f, t, all, none, append-nil, drop-drop, l) (sym (append-assoc xs vs _))
 
--- the bytes bs were written over the front of d, up to `at`
-pub record Put (bs d out : List ℕ) (at : ℕ) : Type 0 where
-  pub at-end : at ≡ length bs
-  pub holds : out ≡ front bs d
+-- the bytes bs were written over the front of d, up to `at`: what a writer ensures
+abbrev pub Put : List ℕ → List ℕ → List ℕ → ℕ → Type 0
+Put bs d out at = (at ≡ length bs) × (out ≡ front bs d)
 
-pub put : (bs d : List ℕ) {out : List ℕ} {at : ℕ} → at ≡ length bs → out ≡ front bs d → Put bs d out at
-put bs d e h = record { at-end = e; holds = h }
+pub put-none : (d : List ℕ) → Put [] d d 0
+put-none d = (refl, refl)
 
--- and more bytes go behind them
-module _ {a d out : List ℕ} {at : ℕ} (w : Put a d out at) (b : List ℕ) (room : length (a ++ b) ≤ length d) where
-  put-fits : length a + length b ≤ length d
-  put-fits = rw (← length-append a b) room
+-- d has room for a and, behind it, b
+pub record Room (a b d : List ℕ) : Type 0 where
+  pub fits : length (a ++ b) ≤ length d
+
+pub first-fits : {a b d : List ℕ} → Room a b d → length a ≤ length d
+first-fits {a} {b} R = omega (arith, R .fits, length-append a b)
+
+pub room-before : {a b c d : List ℕ} → Room (a ++ b) c d → Room a b d
+room-before R = record { fits = first-fits R }
+
+-- a was written, and b goes behind it
+module _ {a b d : List ℕ} (R : Room a b d) {out : List ℕ} {at : ℕ} (w : Put a d out at) where
+  both-fit : length a + length b ≤ length d
+  both-fit = rw (← length-append a b) (R .fits)
 
   pub put-kept : length out ≡ length d
-  put-kept = ap length (w .holds) ∙ length-front a d (omega (arith, put-fits))
+  put-kept = ap length (w .1) ∙ length-front a d (first-fits R)
 
   pub put-within : at ≤ length out
-  put-within = omega (arith, put-kept, put-fits, w .at-end)
+  put-within = omega (arith, put-kept, both-fit, w .0)
 
   pub put-room : length b ≤ length (take (length out - at) (drop at out))
-  put-room = simp (length-take, length-drop) (omega (arith, put-kept, put-fits, w .at-end))
+  put-room = simp (length-take, length-drop) (omega (arith, put-kept, both-fit, w .0))
 
-  pub put-on :
-      {ys : List ℕ} {k : ℕ} → k ≡ length b → ys ≡ front b (take (length out - at) (drop at out))
-      → Put (a ++ b) d (take at out ++ (ys ++ drop (length out - at) (drop at out))) (at + k)
-  put-on {ys} e y =
-      record {
-        at-end = simp length-append (omega (arith, w .at-end));
-        holds = part-front a b d out at ys (w .at-end) (w .holds) (omega (arith, put-fits)) y;
-      }
+  module _ {ys : List ℕ} {k : ℕ} (v : Put b (take (length out - at) (drop at out)) ys k) where
+    pub put-end : at + k ≤ length d
+    put-end = omega (arith, both-fit, w .0, v .0)
+
+    pub put-on : Put (a ++ b) d (take at out ++ (ys ++ drop (length out - at) (drop at out))) (at + k)
+    put-on = (simp length-append (omega (arith, w .0, v .0)), part-front a b d out at ys (w .0) (w .1) (first-fits R) (v .1))
+
+    pub on-kept : length (take at out ++ (ys ++ drop (length out - at) (drop at out))) ≡ length d
+    on-kept = ap length (put-on .1) ∙ length-front (a ++ b) d (R .fits)
+
+-- the same for one byte
+module _ {a d : List ℕ} {x : ℕ} (R : Room a (x ∷ []) d) {out : List ℕ} {at : ℕ} (w : Put a d out at) where
+  pub byte-within : at < length d
+  byte-within = omega (arith, both-fit R w, w .0)
+
+  pub byte-kept : length (set out at x) ≡ length d
+  byte-kept = length-set out at x ∙ put-kept R w
+
+  pub put-byte : Put (a ++ (x ∷ [])) d (set out at x) (at + 1)
+  put-byte = (simp length-append (omega (arith, w .0)), push-at a d out at x (w .1) (sym (w .0)) byte-within)

@@ -1,14 +1,13 @@
 -- Numbers written one after the other over the front of a list, each in bytes of its own: laws for every way of writing one number.
 -- Assumes nothing.
 use Prim.Native.Nat.{ℕ, _+_, _-_, _≤_, _<_}
-use mathlib.Core.Path.{_≡_, refl, ap, sym, _∙_}
+use mathlib.Core.Path.{_≡_, ap, sym, _∙_}
 use mathlib.Core.List.{List, [], _∷_, _++_, append-assoc, append-nil}
 use native.Mathlib.Omega.{arith}
 use native.Mathlib.Numerals.{add-one}
-use lib.ListN.{length, getD, take, drop, length-append, take-append-drop}
+use lib.ListN.{length, getD, set, take, drop, length-append, take-append-drop}
 use lib.Seq.{take-suc, take-all}
-use Rattle.lists.specs.Lists.{front}
-use Rattle.lists.proofs.FrontLaws.{Put, put, put-kept, put-within, put-room, put-on}
+use Rattle.lists.proofs.FrontLaws.{Put, put-none, Room, put-kept, put-within, put-room, put-end, put-on, byte-within, put-byte}
 
 -- `row` writes numbers in a row, each as `one` writes it
 pub record Rows (one : ℕ → List ℕ) (row : List ℕ → List ℕ) : Type 0 where
@@ -36,39 +35,45 @@ pub record Row (one : ℕ → List ℕ) (row : List ℕ → List ℕ) (l d out :
   pub written : Put (row (take j l)) d out at
 
 pub begun : {one : ℕ → List ℕ} {row : List ℕ → List ℕ} (l d : List ℕ) → Rows one row → length (row l) ≤ length d → Row one row l d d 0 0
-begun l d R h = record { rows = R; fits = h; few = omega arith; written = rw (R .empty) (put [] d refl refl) }
+begun l d R h = record { rows = R; fits = h; few = omega arith; written = rw (R .empty) (put-none d) }
 
 module _ {one : ℕ → List ℕ} {row : List ℕ → List ℕ} {l d out : List ℕ} {at j : ℕ} (w : Row one row l d out at j) where
-  row-fits : length (row (take j l) ++ []) ≤ length d
-  row-fits = rw append-nil (omega (arith, rows-part (w .rows) l j, w .fits))
+  so-far : Room (row (take j l)) [] d
+  so-far = record { fits = rw append-nil (omega (arith, rows-part (w .rows) l j, w .fits)) }
 
   pub row-kept : length out ≡ length d
-  row-kept = put-kept (w .written) [] row-fits
+  row-kept = put-kept so-far (w .written)
 
   pub row-within : at ≤ length out
-  row-within = put-within (w .written) [] row-fits
+  row-within = put-within so-far (w .written)
 
+  pub row-done : length l ≤ j → Put (row l) d out at
+  row-done h = rw (take-all j l h) at (w .written)
+
+  -- the next number goes behind
   module _ (h : j < length l) where
-    next-fits : length (row (take j l) ++ one (getD l j 0)) ≤ length d
-    next-fits = rw (← rows-next (w .rows) l j h) (omega (arith, rows-part (w .rows) l (j + 1), w .fits))
+    next : Room (row (take j l)) (one (getD l j 0)) d
+    next = record { fits = rw (← rows-next (w .rows) l j h) (omega (arith, rows-part (w .rows) l (j + 1), w .fits)) }
 
-    -- the next number fits behind `at`
-    pub row-room : at + length (one (getD l j 0)) ≤ length d
-    row-room = omega (arith, next-fits, length-append (row (take j l)) (one (getD l j 0)), w .written .at-end)
+    pub row-room : length (one (getD l j 0)) ≤ length (take (length out - at) (drop at out))
+    row-room = put-room next (w .written)
 
-    pub part-room : length (one (getD l j 0)) ≤ length (take (length out - at) (drop at out))
-    part-room = put-room (w .written) (one (getD l j 0)) next-fits
+    module _ {ys : List ℕ} {k : ℕ} (v : Put (one (getD l j 0)) (take (length out - at) (drop at out)) ys k) where
+      pub row-end : at + k ≤ length d
+      row-end = put-end next (w .written) v
 
-    pub row-more :
-        {ys : List ℕ} {k : ℕ} → k ≡ length (one (getD l j 0)) → ys ≡ front (one (getD l j 0)) (take (length out - at) (drop at out))
-        → Row one row l d (take at out ++ (ys ++ drop (length out - at) (drop at out))) (at + k) (j + 1)
-    row-more e y =
-        record {
-          rows = w .rows;
-          fits = w .fits;
-          few = omega arith;
-          written = rw (rows-next (w .rows) l j h) (put-on (w .written) (one (getD l j 0)) next-fits e y);
-        }
+      pub row-more : Row one row l d (take at out ++ (ys ++ drop (length out - at) (drop at out))) (at + k) (j + 1)
+      row-more =
+          record { rows = w .rows; fits = w .fits; few = omega arith; written = rw (rows-next (w .rows) l j h) (put-on next (w .written) v) }
 
-  pub row-done : length l ≤ j → (at ≡ length (row l)) × (out ≡ front (row l) d)
-  row-done h = let p : Put (row l) d out at = rw (take-all j l h) at (w .written) in (p .at-end, p .holds)
+    -- where it is written as one byte, that byte is stored
+    module _ {x : ℕ} (e : one (getD l j 0) ≡ x ∷ []) where
+      byte-next : Room (row (take j l)) (x ∷ []) d
+      byte-next = rw e at next
+
+      pub row-store-within : at < length d
+      row-store-within = byte-within byte-next (w .written)
+
+      pub row-store : Row one row l d (set out at x) (at + 1) (j + 1)
+      row-store =
+          record { rows = w .rows; fits = w .fits; few = omega arith; written = rw (rows-next (w .rows) l j h, e) (put-byte byte-next (w .written)) }

@@ -1,30 +1,28 @@
 -- Laws of a slip's parts: its bytes in a row, and what each part that was judged says of the whole. Assumes nothing.
-use Prim.Native.Nat.{ℕ, _+_, _≤_, _<_}
+use Prim.Native.Nat.{ℕ, _≤_, _<_}
 use mathlib.Core.Path.{_≡_, refl, ap, sym, _∙_}
 use mathlib.Core.List.{List, [], _∷_, _++_, append-assoc}
 use mathlib.Core.Bool.{true}
 use native.Mathlib.Omega.{arith}
 use lib.Dec.{ltb}
-use lib.ListN.{length, drop, drop-of-length-le, length-append}
+use lib.ListN.{length, drop, drop-of-length-le}
 use lib.Seq.{drop-cons}
 use borrow.Author.Tests.{ltb-true, lt-ltb, le-leb, lt-leb}
 use Rattle.lists.specs.Lists.{every}
+use Rattle.lists.proofs.FrontLaws.{Room}
 use Rattle.lists.proofs.Pigeonhole.{Below}
 use Rattle.lists.proofs.TestLaws.{and-true, true-and}
 use Rattle.varint.specs.Varint.{Read, got, refuse, after, readNumber, number, judged, several, writeNumber, writeNumbers}
 use Rattle.varint.specs.Answer.{small}
 use Rattle.lists.proofs.RowLaws.{rows-append}
 use Rattle.varint.proofs.WriteLaws.{numbers-rows}
-use Rattle.sheet.specs.Slip.{slipNumbers, slipBytes, marksBytes, readList, slipEnd, slipReasons, slipGoals, as17, readSlip}
+use Rattle.sheet.specs.Slip.{slipNumbers, slipBytes, readList, slipEnd, slipReasons, slipGoals, as17, readSlip}
 use Rattle.slip_reader.specs.Form.{slipFrom, listBytes, listsOf}
 
-pub marks-parts : (ms : List ℕ) → marksBytes ms ≡ writeNumber 0 ++ writeNumbers ms
-unfolding marksBytes writeNumbers
-marks-parts ms = refl
-
-pub list-parts : (xs : List ℕ) → listBytes xs ≡ writeNumber (length xs) ++ writeNumbers xs
+-- a list is its count with its numbers behind it
+pub list-room : (xs d : List ℕ) → length (listBytes xs) ≤ length d → Room (writeNumber (length xs)) (writeNumbers xs) d
 unfolding listBytes writeNumbers
-list-parts xs = refl
+list-room xs d h = record { fits = h }
 
 pub slip-parts : (v : ℕ) (gs rs : List ℕ) → slipBytes (slipFrom v gs rs) ≡ (writeNumber v ++ listBytes gs) ++ listBytes rs
 unfolding slipBytes slipNumbers listBytes writeNumbers
@@ -53,13 +51,6 @@ small-parts v gs rs e =
     let w = small-cons v _ e in
     let r = small-append (length gs ∷ gs) (length rs ∷ rs) (w .1) in
     (w .0, r .0, r .1)
-
--- room for three parts is room for one and for two
-pub first-part : (a b c : List ℕ) {n : ℕ} → length ((a ++ b) ++ c) ≤ n → length a ≤ n
-first-part a b c h = omega (arith, simp length-append at h)
-
-pub two-parts : (a b c : List ℕ) {n : ℕ} → length ((a ++ b) ++ c) ≤ n → length (a ++ b) ≤ n
-two-parts a b c h = omega (arith, length-append (a ++ b) c)
 
 module _ (bs : List ℕ) where
   pub count-not : {e : ℕ} → refuse e ≡ readNumber bs → refuse e ≡ readList bs
@@ -111,19 +102,3 @@ pub small-below : (n : ℕ) (xs : List ℕ) → n ≤ 268435456 → Below n xs �
 unfolding small every
 small-below n [] l b = refl
 small-below n (x ∷ xs) l b = true-and (lt-ltb x 268435456 (omega (arith, b .0))) (small-below n xs l (b .1))
-
-small-both : (xs ys : List ℕ) → small xs ≡ true → small ys ≡ true → small (xs ++ ys) ≡ true
-unfolding small every
-small-both [] ys e f = f
-small-both (x ∷ xs) ys e f = let w = and-true (ltb x 268435456) _ e in true-and (w .0) (small-both xs ys (w .1) f)
-
-small-with : (x : ℕ) (xs : List ℕ) → x < 268435456 → small xs ≡ true → small (x ∷ xs) ≡ true
-unfolding small every
-small-with x xs h e = true-and (lt-ltb x 268435456 h) e
-
--- and so a slip has a written form
-pub small-slip :
-    (v : ℕ) (gs rs : List ℕ) → v < 268435456 → length gs < 268435456 → small gs ≡ true → length rs < 268435456 → small rs ≡ true
-    → small (slipNumbers (slipFrom v gs rs)) ≡ true
-unfolding slipNumbers
-small-slip v gs rs a b c d e = small-with v _ a (small-both (length gs ∷ gs) (length rs ∷ rs) (small-with (length gs) gs b c) (small-with (length rs) rs d e))

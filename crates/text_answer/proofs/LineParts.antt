@@ -20,16 +20,6 @@ pub small-one : (x : ℕ) → x < 268435456 → small (x ∷ []) ≡ true
 unfolding small every
 small-one x h = true-and (lt-ltb x 268435456 h) refl
 
--- the two lines of verdict 0
-pub stands-parts : (xs : List ℕ) → standsText xs ≡ line verdictWord (0 ∷ []) ++ line struckWord xs
-unfolding standsText
-stands-parts xs = refl
-
--- the three lines of a refused round
-pub blame-parts : (s : Slip) → blameText s ≡ (line verdictWord (s .first ∷ []) ++ line needsWord (s .goals)) ++ line becauseWord (s .reasons)
-unfolding blameText
-blame-parts s = refl
-
 -- at most 576 items, of at most ten digits each, leave room in 8,192 bytes
 pub stands-size : (xs : List ℕ) → length xs ≤ 576 → length (standsText xs) ≤ 8192
 unfolding standsText

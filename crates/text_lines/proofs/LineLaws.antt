@@ -4,13 +4,11 @@ use mathlib.Core.Path.{_≡_, refl, ap, sym, _∙_}
 use mathlib.Core.List.{List, [], _∷_, _++_}
 use mathlib.Core.Bool.{Bool, true, false}
 use native.Mathlib.Omega.{arith}
-use native.Mathlib.Numerals.{add-one}
 use lib.Dec.{ltb}
 use borrow.Author.Tests.{lt-ltb, le-ltb, ltb-true, ltb-false}
-use lib.ListN.{length, getD, set, take, length-append, length-take, length-set}
-use lib.Seq.{take-suc, take-all}
+use lib.ListN.{length, set, length-append}
 use Rattle.lists.specs.Lists.{pick, front}
-use Rattle.lists.proofs.FrontLaws.{length-front, push-at, Put, put}
+use Rattle.lists.proofs.FrontLaws.{push-at}
 use Rattle.lists.proofs.RowLaws.{Rows}
 use Rattle.text_lines.specs.Lines.{digits, decimal, spaced, row, line}
 
@@ -67,71 +65,20 @@ module _ (n : ℕ) (d : List ℕ) (many : 10 ≤ n) (wide : n < 4294967296) (fit
     rw (decimal-last n many wide) (push-at (decimal (n / 10)) d out at (48 + n % 10) e (sym a) (omega (arith, last-room, a))),
   )
 
--- a space stands in front, and the digits go behind it
-module _ (n : ℕ) (d : List ℕ) (fits : length (spaced n) ≤ length d) where
-  pub space-room : length (decimal n) < length d
-  unfolding spaced
-  space-room = omega arith
+-- a word is written byte by byte
+abbrev pub byte : ℕ → List ℕ
+byte x = x ∷ []
 
-  pub space-put : Put (32 ∷ []) d (set d 0 32) 1
-  space-put = put (32 ∷ []) d refl (push-at [] d d 0 32 refl refl (omega (arith, space-room)))
+abbrev pub bytes : List ℕ → List ℕ
+bytes xs = xs
 
-  pub space-fits : length ((32 ∷ []) ++ decimal n) ≤ length d
-  unfolding spaced
-  space-fits = fits
-
-  pub space-done : {out : List ℕ} {at : ℕ} → Put ((32 ∷ []) ++ decimal n) d out at → (at ≡ length (spaced n)) × (out ≡ front (spaced n) d)
-  unfolding spaced
-  space-done w = (w .at-end, w .holds)
-
--- the first i bytes of a word were written over the front of d
-pub record Copied (word d out : List ℕ) (i : ℕ) : Type 0 where
-  pub few : i ≤ length word
-  pub holds : out ≡ front (take i word) d
-
-module _ {word d out : List ℕ} {i : ℕ} (w : Copied word d out i) (fits : length word ≤ length d) where
-  taken-length : length (take i word) ≡ i
-  taken-length = simp length-take (omega (arith, w .few))
-
-  pub copied-kept : length out ≡ length d
-  copied-kept = ap length (w .holds) ∙ length-front (take i word) d (omega (arith, taken-length, w .few))
-
-  pub copied-more : i < length word → Copied word d (set out i (getD word i 0)) (i + 1)
-  copied-more h =
-      record {
-        few = omega arith;
-        holds = rw (add-one i, take-suc word i 0 h) (push-at (take i word) d out i (getD word i 0) (w .holds) taken-length (omega arith));
-      }
-
-  pub copied-done : length word ≤ i → (i ≡ length word) × (out ≡ front word d)
-  copied-done h = (omega (arith, w .few), w .holds ∙ ap (λ (xs : List ℕ). front xs d) (take-all i word h))
+pub bytes-rows : Rows byte bytes
+bytes-rows = record { empty = refl; first = λ x xs. refl }
 
 -- a row is written number by number, each behind its space
 pub spaced-rows : Rows spaced row
 unfolding row
 spaced-rows = record { empty = refl; first = λ x xs. refl }
-
--- the word and the numbers behind it stand in front, and the line's end goes behind them
-module _ (word xs d : List ℕ) (fits : length (line word xs) ≤ length d) where
-  pub line-room : length (word ++ row xs) < length d
-  unfolding line
-  line-room = omega (arith, simp length-append at fits, length-append word (row xs))
-
-  pub line-fits : length (word ++ row xs) ≤ length d
-  line-fits = omega (arith, line-room)
-
-  pub written-within : {out : List ℕ} {at : ℕ} → Put (word ++ row xs) d out at → at < length out
-  written-within w = omega (arith, line-room, w .at-end, ap length (w .holds) ∙ length-front (word ++ row xs) d line-fits)
-
-  pub line-kept : {out : List ℕ} {at : ℕ} (x : ℕ) → Put (word ++ row xs) d out at → length (set out at x) ≡ length d
-  line-kept {out} {at} x w = length-set out at x ∙ ap length (w .holds) ∙ length-front (word ++ row xs) d line-fits
-
-  pub line-done : (out : List ℕ) (at : ℕ) → Put (word ++ row xs) d out at → (at + 1 ≡ length (line word xs)) × (set out at 10 ≡ front (line word xs) d)
-  unfolding line
-  line-done out at w = (
-    rw (length-append (word ++ row xs) (10 ∷ [])) (omega (arith, w .at-end)),
-    push-at (word ++ row xs) d out at 10 (w .holds) (sym (w .at-end)) (omega (arith, line-room, w .at-end)),
-  )
 
 -- ten digits at most, and so eleven bytes for each number
 digits-size : (k n : ℕ) → length (digits k n) ≤ suc k

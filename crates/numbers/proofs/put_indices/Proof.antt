@@ -3,7 +3,7 @@ use borrow.Author.Needs.{needs}
 use Prim.Native.Nat.{_-_}
 use native.Mathlib.Omega.{arith}
 use lib.ListN.{length}
-use Rattle.lists.proofs.RowLaws.{Row, begun, row-kept, row-within, row-room, part-room, row-more, row-done}
+use Rattle.lists.proofs.RowLaws.{Row, begun, row-kept, row-within, row-room, row-end, row-more, row-done}
 use Rattle.varint.specs.Varint.{writeNumber, writeNumbers}
 use Rattle.varint.proofs.WriteLaws.{numbers-rows, small-at}
 use Rattle.numbers.proofs.put_indices.Statement.{statement}
@@ -37,10 +37,10 @@ cast-put-number : tie.Need-cast-put-number Inv-loop μ-loop
 cast-put-number c = omega (arith, small-at (c .before .before .before .before .before .before .args .indices .now) (c .before .before .before .loop .j) (c .before .before .before .before .before .before .pre .0) (c .before .before .loop-test .taken))
 
 put-number-requires : tie.Need-put-number-requires Inv-loop μ-loop
-put-number-requires c κs = (small-at (c .before .before .before .before .before .before .args .indices .now) (c .before .before .before .loop .j) (c .before .before .before .before .before .before .pre .0) (c .before .before .loop-test .taken), part-room (c .before .before .before .loop .inv) (c .before .before .loop-test .taken))
+put-number-requires c κs = (small-at (c .before .before .before .before .before .before .args .indices .now) (c .before .before .before .loop .j) (c .before .before .before .before .before .before .pre .0) (c .before .before .loop-test .taken), row-room (c .before .before .before .loop .inv) (c .before .before .loop-test .taken))
 
 add-at : tie.Need-add-at Inv-loop μ-loop
-add-at c = omega (arith, row-room (c .before .before .before .before .before .before .loop .inv) (c .before .before .before .before .before .loop-test .taken), c .before .before .put-number .ensures .0)
+add-at c = omega (arith, row-end (c .before .before .before .before .before .before .loop .inv) (c .before .before .before .before .before .loop-test .taken) (c .before .before .put-number .ensures))
 
 add-j : tie.Need-add-j Inv-loop μ-loop
 add-j c = search needs
@@ -49,7 +49,7 @@ loop-less : tie.Need-loop-less Inv-loop μ-loop
 loop-less c = search needs
 
 loop-again : tie.Need-loop-again Inv-loop μ-loop
-loop-again c = row-more (c .before .before .before .before .before .before .loop .inv) (c .before .before .before .before .before .loop-test .taken) (c .before .before .put-number .ensures .0) (c .before .before .put-number .ensures .1)
+loop-again c = row-more (c .before .before .before .before .before .before .loop .inv) (c .before .before .before .before .before .loop-test .taken) (c .before .before .put-number .ensures)
 
 same-length : tie.Need-same-length Inv-loop μ-loop
 same-length c = row-kept (c .before .loop .inv)

@@ -2,15 +2,21 @@
 use borrow.Author.Needs.{needs}
 use mathlib.Core.List.{[], _∷_, _++_}
 use native.Mathlib.Omega.{arith}
-use lib.ListN.{length-append}
-use Rattle.lists.proofs.FrontLaws.{put, put-within, put-room, put-on}
+use Rattle.lists.proofs.FrontLaws.{Room, room-before, first-fits, put-within, put-room, put-end, put-on}
 use Rattle.text_lines.specs.Lines.{line}
-use Rattle.slip_reader.specs.Form.{slipFrom}
-use Rattle.slip_reader.proofs.FormLaws.{first-part, two-parts}
-use Rattle.text_answer.specs.Text.{verdictWord, needsWord, becauseWord}
-use Rattle.text_answer.proofs.LineParts.{small-one, blame-parts}
+use Rattle.text_answer.specs.Text.{verdictWord, needsWord, becauseWord, blameText}
+use Rattle.text_answer.proofs.LineParts.{small-one}
 use Rattle.text_answer.proofs.put_blame.Statement.{statement}
 use Rattle.text_answer.proofs.put_blame.Tie as tie
+
+because-room :
+    (s : tie.Start)
+    → Room (line verdictWord (s .args .first ∷ []) ++ line needsWord (s .args .goals .now)) (line becauseWord (s .args .reasons .now)) (s .args .out .now)
+unfolding blameText
+because-room s = record { fits = s .pre .3 }
+
+needs-room : (s : tie.Start) → Room (line verdictWord (s .args .first ∷ [])) (line needsWord (s .args .goals .now)) (s .args .out .now)
+needs-room s = room-before (because-room s)
 
 slice-aggregate-put-line : tie.Need-slice-aggregate-put-line
 slice-aggregate-put-line c = search needs
@@ -19,36 +25,13 @@ slice-aggregate-put-line-2 : tie.Need-slice-aggregate-put-line-2
 slice-aggregate-put-line-2 c = search needs
 
 put-line-requires : tie.Need-put-line-requires
-put-line-requires c κs =
-    let s = c .before .before .before .before .before .before in
-    let d = s .args .out .now in
-    let a = line verdictWord (s .args .first ∷ []) in
-    let b = line needsWord (s .args .goals .now) in
-    let e = line becauseWord (s .args .reasons .now) in
-    let room = rw (blame-parts (slipFrom (s .args .first) (s .args .goals .now) (s .args .reasons .now))) at (s .pre .3) in
-    (small-one (s .args .first) (omega (arith, s .pre .0)), first-part a b e room)
+put-line-requires c κs = (small-one (c .before .before .before .before .before .before .args .first) (omega (arith, c .before .before .before .before .before .before .pre .0)), first-fits (needs-room (c .before .before .before .before .before .before)))
 
 sub-put-line : tie.Need-sub-put-line
-sub-put-line c =
-    let s = c .before .before .before .before .before .before .before .before .before in
-    let d = s .args .out .now in
-    let a = line verdictWord (s .args .first ∷ []) in
-    let b = line needsWord (s .args .goals .now) in
-    let e = line becauseWord (s .args .reasons .now) in
-    let room = rw (blame-parts (slipFrom (s .args .first) (s .args .goals .now) (s .args .reasons .now))) at (s .pre .3) in
-    let p = put a d (c .before .before .put-line .ensures .0) (c .before .before .put-line .ensures .1) in
-    put-within p b (two-parts a b e room)
+sub-put-line c = put-within (needs-room (c .before .before .before .before .before .before .before .before .before)) (c .before .before .put-line .ensures)
 
 part-put-line-start : tie.Need-part-put-line-start
-part-put-line-start c =
-    let s = c .before .before .before .before .before .before .before .before .before in
-    let d = s .args .out .now in
-    let a = line verdictWord (s .args .first ∷ []) in
-    let b = line needsWord (s .args .goals .now) in
-    let e = line becauseWord (s .args .reasons .now) in
-    let room = rw (blame-parts (slipFrom (s .args .first) (s .args .goals .now) (s .args .reasons .now))) at (s .pre .3) in
-    let p = put a d (c .before .before .put-line .ensures .0) (c .before .before .put-line .ensures .1) in
-    put-within p b (two-parts a b e room)
+part-put-line-start c = put-within (needs-room (c .before .before .before .before .before .before .before .before .before)) (c .before .before .put-line .ensures)
 
 part-put-line-end : tie.Need-part-put-line-end
 part-put-line-end c = search needs
@@ -57,49 +40,16 @@ slice-aggregate-put-line-3 : tie.Need-slice-aggregate-put-line-3
 slice-aggregate-put-line-3 c = search needs
 
 put-line-requires-2 : tie.Need-put-line-requires-2
-put-line-requires-2 c κs =
-    let s = c .before .before .before .before .before .before .before .before .before .before .before in
-    let d = s .args .out .now in
-    let a = line verdictWord (s .args .first ∷ []) in
-    let b = line needsWord (s .args .goals .now) in
-    let e = line becauseWord (s .args .reasons .now) in
-    let room = rw (blame-parts (slipFrom (s .args .first) (s .args .goals .now) (s .args .reasons .now))) at (s .pre .3) in
-    let p = put a d (c .before .before .before .before .put-line .ensures .0) (c .before .before .before .before .put-line .ensures .1) in
-    (s .pre .1, put-room p b (two-parts a b e room))
+put-line-requires-2 c κs = (c .before .before .before .before .before .before .before .before .before .before .before .pre .1, put-room (needs-room (c .before .before .before .before .before .before .before .before .before .before .before)) (c .before .before .before .before .put-line .ensures))
 
 add-end : tie.Need-add-end
-add-end c =
-    let s = c .before .before .before .before .before .before .before .before .before .before .before .before .before .before in
-    let d = s .args .out .now in
-    let a = line verdictWord (s .args .first ∷ []) in
-    let b = line needsWord (s .args .goals .now) in
-    let e = line becauseWord (s .args .reasons .now) in
-    let room = rw (blame-parts (slipFrom (s .args .first) (s .args .goals .now) (s .args .reasons .now))) at (s .pre .3) in
-    omega (arith, two-parts a b e room, length-append a b, c .before .before .before .before .before .before .before .put-line .ensures .0, c .before .before .put-line2 .ensures .0)
+add-end c = omega (arith, put-end (needs-room (c .before .before .before .before .before .before .before .before .before .before .before .before .before .before)) (c .before .before .before .before .before .before .before .put-line .ensures) (c .before .before .put-line2 .ensures))
 
 sub-put-line-2 : tie.Need-sub-put-line-2
-sub-put-line-2 c =
-    let s = c .before .before .before .before .before .before .before .before .before .before .before .before .before .before in
-    let d = s .args .out .now in
-    let a = line verdictWord (s .args .first ∷ []) in
-    let b = line needsWord (s .args .goals .now) in
-    let e = line becauseWord (s .args .reasons .now) in
-    let room = rw (blame-parts (slipFrom (s .args .first) (s .args .goals .now) (s .args .reasons .now))) at (s .pre .3) in
-    let p = put a d (c .before .before .before .before .before .before .before .put-line .ensures .0) (c .before .before .before .before .before .before .before .put-line .ensures .1) in
-    let q = put-on p b (two-parts a b e room) (c .before .before .put-line2 .ensures .0) (c .before .before .put-line2 .ensures .1) in
-    put-within q e room
+sub-put-line-2 c = put-within (because-room (c .before .before .before .before .before .before .before .before .before .before .before .before .before .before)) (put-on (needs-room (c .before .before .before .before .before .before .before .before .before .before .before .before .before .before)) (c .before .before .before .before .before .before .before .put-line .ensures) (c .before .before .put-line2 .ensures))
 
 part-put-line-start-2 : tie.Need-part-put-line-start-2
-part-put-line-start-2 c =
-    let s = c .before .before .before .before .before .before .before .before .before .before .before .before .before .before in
-    let d = s .args .out .now in
-    let a = line verdictWord (s .args .first ∷ []) in
-    let b = line needsWord (s .args .goals .now) in
-    let e = line becauseWord (s .args .reasons .now) in
-    let room = rw (blame-parts (slipFrom (s .args .first) (s .args .goals .now) (s .args .reasons .now))) at (s .pre .3) in
-    let p = put a d (c .before .before .before .before .before .before .before .put-line .ensures .0) (c .before .before .before .before .before .before .before .put-line .ensures .1) in
-    let q = put-on p b (two-parts a b e room) (c .before .before .put-line2 .ensures .0) (c .before .before .put-line2 .ensures .1) in
-    put-within q e room
+part-put-line-start-2 c = put-within (because-room (c .before .before .before .before .before .before .before .before .before .before .before .before .before .before)) (put-on (needs-room (c .before .before .before .before .before .before .before .before .before .before .before .before .before .before)) (c .before .before .before .before .before .before .before .put-line .ensures) (c .before .before .put-line2 .ensures))
 
 part-put-line-end-2 : tie.Need-part-put-line-end-2
 part-put-line-end-2 c = search needs
@@ -108,42 +58,17 @@ slice-aggregate-put-line-4 : tie.Need-slice-aggregate-put-line-4
 slice-aggregate-put-line-4 c = search needs
 
 put-line-requires-3 : tie.Need-put-line-requires-3
-put-line-requires-3 c κs =
-    let s = c .before .before .before .before .before .before .before .before .before .before .before .before .before .before .before .before in
-    let d = s .args .out .now in
-    let a = line verdictWord (s .args .first ∷ []) in
-    let b = line needsWord (s .args .goals .now) in
-    let e = line becauseWord (s .args .reasons .now) in
-    let room = rw (blame-parts (slipFrom (s .args .first) (s .args .goals .now) (s .args .reasons .now))) at (s .pre .3) in
-    let p = put a d (c .before .before .before .before .before .before .before .before .before .put-line .ensures .0) (c .before .before .before .before .before .before .before .before .before .put-line .ensures .1) in
-    let q = put-on p b (two-parts a b e room) (c .before .before .before .before .put-line2 .ensures .0) (c .before .before .before .before .put-line2 .ensures .1) in
-    (s .pre .2, put-room q e room)
+put-line-requires-3 c κs = (c .before .before .before .before .before .before .before .before .before .before .before .before .before .before .before .before .pre .2, put-room (because-room (c .before .before .before .before .before .before .before .before .before .before .before .before .before .before .before .before)) (put-on (needs-room (c .before .before .before .before .before .before .before .before .before .before .before .before .before .before .before .before)) (c .before .before .before .before .before .before .before .before .before .put-line .ensures) (c .before .before .before .before .put-line2 .ensures)))
 
 add-result : tie.Need-add-result
-add-result c =
-    let s = c .before .before .before .before .before .before .before .before .before .before .before .before .before .before .before .before .before .before .before in
-    let d = s .args .out .now in
-    let a = line verdictWord (s .args .first ∷ []) in
-    let b = line needsWord (s .args .goals .now) in
-    let e = line becauseWord (s .args .reasons .now) in
-    let room = rw (blame-parts (slipFrom (s .args .first) (s .args .goals .now) (s .args .reasons .now))) at (s .pre .3) in
-    omega (arith, room, length-append (a ++ b) e, length-append a b, c .before .before .before .before .before .before .before .before .before .before .before .before .put-line .ensures .0, c .before .before .before .before .before .before .before .put-line2 .ensures .0, c .before .before .put-line3 .ensures .0)
+add-result c = omega (arith, put-end (because-room (c .before .before .before .before .before .before .before .before .before .before .before .before .before .before .before .before .before .before .before)) (put-on (needs-room (c .before .before .before .before .before .before .before .before .before .before .before .before .before .before .before .before .before .before .before)) (c .before .before .before .before .before .before .before .before .before .before .before .before .put-line .ensures) (c .before .before .before .before .before .before .before .put-line2 .ensures)) (c .before .before .put-line3 .ensures))
 
 same-length : tie.Need-same-length
 same-length c = search needs
 
 returns : tie.Need-returns
-returns c =
-    let s = c .before .before .before .before .before .before .before .before .before .before .before .before .before .before .before .before .before .before .before in
-    let d = s .args .out .now in
-    let a = line verdictWord (s .args .first ∷ []) in
-    let b = line needsWord (s .args .goals .now) in
-    let e = line becauseWord (s .args .reasons .now) in
-    let room = rw (blame-parts (slipFrom (s .args .first) (s .args .goals .now) (s .args .reasons .now))) at (s .pre .3) in
-    let p = put a d (c .before .before .before .before .before .before .before .before .before .before .before .before .put-line .ensures .0) (c .before .before .before .before .before .before .before .before .before .before .before .before .put-line .ensures .1) in
-    let q = put-on p b (two-parts a b e room) (c .before .before .before .before .before .before .before .put-line2 .ensures .0) (c .before .before .before .before .before .before .before .put-line2 .ensures .1) in
-    let r = put-on q e room (c .before .before .put-line3 .ensures .0) (c .before .before .put-line3 .ensures .1) in
-    rw (blame-parts (slipFrom (s .args .first) (s .args .goals .now) (s .args .reasons .now))) (r .at-end, r .holds)
+unfolding blameText
+returns c = put-on (because-room (c .before .before .before .before .before .before .before .before .before .before .before .before .before .before .before .before .before .before .before)) (put-on (needs-room (c .before .before .before .before .before .before .before .before .before .before .before .before .before .before .before .before .before .before .before)) (c .before .before .before .before .before .before .before .before .before .before .before .before .put-line .ensures) (c .before .before .before .before .before .before .before .put-line2 .ensures)) (c .before .before .put-line3 .ensures)
 
 pub put-blame-spec : {M : Type 1} → statement M
 put-blame-spec =

@@ -1,98 +1,49 @@
 -- `put_line` writes the word, the numbers behind it and the line's end. Assumes nothing.
 use borrow.Author.Needs.{needs}
+use mathlib.Core.List.{[], _∷_, _++_}
 use native.Mathlib.Omega.{arith}
-use lib.ListN.{length-append}
-use Rattle.lists.proofs.FrontLaws.{put, put-within, put-room, put-on}
-use Rattle.text_lines.specs.Lines.{row}
-use Rattle.text_lines.proofs.LineLaws.{line-room, line-fits, line-kept, line-done, written-within}
+use Rattle.lists.proofs.FrontLaws.{Room, first-fits, room-before, put-within, put-room, put-end, put-on, byte-within, byte-kept, put-byte}
+use Rattle.text_lines.specs.Lines.{row, line}
 use Rattle.text_lines.proofs.put_line.Statement.{statement}
 use Rattle.text_lines.proofs.put_line.Tie as tie
 
+end-room : (s : tie.Start) → Room (s .args .word .now ++ row (s .args .numbers .now)) (10 ∷ []) (s .args .out .now)
+unfolding line
+end-room s = record { fits = s .pre .1 }
+
+row-room : (s : tie.Start) → Room (s .args .word .now) (row (s .args .numbers .now)) (s .args .out .now)
+row-room s = room-before (end-room s)
+
 put-word-requires : tie.Need-put-word-requires
-put-word-requires c κs =
-    let s = c .before .before .before .before in
-    let word = s .args .word .now in
-    let xs = s .args .numbers .now in
-    let d = s .args .out .now in
-    omega (arith, line-room word xs d (s .pre .1), length-append word (row xs))
+put-word-requires c κs = first-fits (row-room (c .before .before .before .before))
 
 sub-put-row : tie.Need-sub-put-row
-sub-put-row c =
-    let s = c .before .before .before .before .before .before .before in
-    let word = s .args .word .now in
-    let xs = s .args .numbers .now in
-    let d = s .args .out .now in
-    let w = put word d (c .before .before .put-word .ensures .0) (c .before .before .put-word .ensures .1) in
-    put-within w (row xs) (line-fits word xs d (s .pre .1))
+sub-put-row c = put-within (row-room (c .before .before .before .before .before .before .before)) (c .before .before .put-word .ensures)
 
 part-put-row-start : tie.Need-part-put-row-start
-part-put-row-start c =
-    let s = c .before .before .before .before .before .before .before in
-    let word = s .args .word .now in
-    let xs = s .args .numbers .now in
-    let d = s .args .out .now in
-    let w = put word d (c .before .before .put-word .ensures .0) (c .before .before .put-word .ensures .1) in
-    put-within w (row xs) (line-fits word xs d (s .pre .1))
+part-put-row-start c = put-within (row-room (c .before .before .before .before .before .before .before)) (c .before .before .put-word .ensures)
 
 part-put-row-end : tie.Need-part-put-row-end
 part-put-row-end c = search needs
 
 put-row-requires : tie.Need-put-row-requires
-put-row-requires c κs =
-    let s = c .before .before .before .before .before .before .before .before in
-    let word = s .args .word .now in
-    let xs = s .args .numbers .now in
-    let d = s .args .out .now in
-    let w = put word d (c .before .before .before .put-word .ensures .0) (c .before .before .before .put-word .ensures .1) in
-    (s .pre .0, put-room w (row xs) (line-fits word xs d (s .pre .1)))
+put-row-requires c κs = (c .before .before .before .before .before .before .before .before .pre .0, put-room (row-room (c .before .before .before .before .before .before .before .before)) (c .before .before .before .put-word .ensures))
 
 add-end : tie.Need-add-end
-add-end c =
-    let s = c .before .before .before .before .before .before .before .before .before .before .before in
-    let word = s .args .word .now in
-    let xs = s .args .numbers .now in
-    let d = s .args .out .now in
-    let w = put word d (c .before .before .before .before .before .before .put-word .ensures .0) (c .before .before .before .before .before .before .put-word .ensures .1) in
-    omega (arith, line-room word xs d (s .pre .1), length-append word (row xs), c .before .before .before .before .before .before .put-word .ensures .0, c .before .before .put-row .ensures .0)
+add-end c = omega (arith, put-end (row-room (c .before .before .before .before .before .before .before .before .before .before .before)) (c .before .before .before .before .before .before .put-word .ensures) (c .before .before .put-row .ensures))
 
 slice-write-out : tie.Need-slice-write-out
-slice-write-out c =
-    let s = c .before .before .before .before .before .before .before .before .before .before .before in
-    let word = s .args .word .now in
-    let xs = s .args .numbers .now in
-    let d = s .args .out .now in
-    let w = put word d (c .before .before .before .before .before .before .put-word .ensures .0) (c .before .before .before .before .before .before .put-word .ensures .1) in
-    let p = put-on w (row xs) (line-fits word xs d (s .pre .1)) (c .before .before .put-row .ensures .0) (c .before .before .put-row .ensures .1) in
-    written-within word xs d (s .pre .1) p
+slice-write-out c = omega (arith, byte-within (end-room (c .before .before .before .before .before .before .before .before .before .before .before)) (put-on (row-room (c .before .before .before .before .before .before .before .before .before .before .before)) (c .before .before .before .before .before .before .put-word .ensures) (c .before .before .put-row .ensures)))
 
 add-result : tie.Need-add-result
-add-result c =
-    let s = c .before .before .before .before .before .before .before .before .before .before .before in
-    let word = s .args .word .now in
-    let xs = s .args .numbers .now in
-    let d = s .args .out .now in
-    let w = put word d (c .before .before .before .before .before .before .put-word .ensures .0) (c .before .before .before .before .before .before .put-word .ensures .1) in
-    omega (arith, line-room word xs d (s .pre .1), length-append word (row xs), c .before .before .before .before .before .before .put-word .ensures .0, c .before .before .put-row .ensures .0)
+add-result c = omega (arith, byte-within (end-room (c .before .before .before .before .before .before .before .before .before .before .before)) (put-on (row-room (c .before .before .before .before .before .before .before .before .before .before .before)) (c .before .before .before .before .before .before .put-word .ensures) (c .before .before .put-row .ensures)))
 
 same-length : tie.Need-same-length
-same-length c =
-    let s = c .before .before .before .before .before .before .before .before .before .before .before in
-    let word = s .args .word .now in
-    let xs = s .args .numbers .now in
-    let d = s .args .out .now in
-    let w = put word d (c .before .before .before .before .before .before .put-word .ensures .0) (c .before .before .before .before .before .before .put-word .ensures .1) in
-    let p = put-on w (row xs) (line-fits word xs d (s .pre .1)) (c .before .before .put-row .ensures .0) (c .before .before .put-row .ensures .1) in
-    line-kept word xs d (s .pre .1) _ p
+same-length c = byte-kept (end-room (c .before .before .before .before .before .before .before .before .before .before .before)) (put-on (row-room (c .before .before .before .before .before .before .before .before .before .before .before)) (c .before .before .before .before .before .before .put-word .ensures) (c .before .before .put-row .ensures))
 
 returns : tie.Need-returns
-returns c =
-    let s = c .before .before .before .before .before .before .before .before .before .before .before in
-    let word = s .args .word .now in
-    let xs = s .args .numbers .now in
-    let d = s .args .out .now in
-    let w = put word d (c .before .before .before .before .before .before .put-word .ensures .0) (c .before .before .before .before .before .before .put-word .ensures .1) in
-    let p = put-on w (row xs) (line-fits word xs d (s .pre .1)) (c .before .before .put-row .ensures .0) (c .before .before .put-row .ensures .1) in
-    line-done word xs d (s .pre .1) _ _ p
+unfolding line
+returns c = put-byte (end-room (c .before .before .before .before .before .before .before .before .before .before .before)) (put-on (row-room (c .before .before .before .before .before .before .before .before .before .before .before)) (c .before .before .before .before .before .before .put-word .ensures) (c .before .before .put-row .ensures))
 
 pub put-line-spec : {M : Type 1} → statement M
 put-line-spec =

@@ -3,7 +3,7 @@ use borrow.Author.Needs.{needs}
 use Prim.Native.Nat.{_-_}
 use native.Mathlib.Omega.{arith}
 use lib.ListN.{length}
-use Rattle.lists.proofs.RowLaws.{Row, begun, row-kept, row-within, row-room, part-room, row-more, row-done}
+use Rattle.lists.proofs.RowLaws.{Row, begun, row-kept, row-within, row-room, row-end, row-more, row-done}
 use Rattle.varint.proofs.WriteLaws.{small-at}
 use Rattle.text_lines.specs.Lines.{spaced, row}
 use Rattle.text_lines.proofs.LineLaws.{spaced-rows}
@@ -38,10 +38,10 @@ cast-put-spaced : tie.Need-cast-put-spaced Inv-loop μ-loop
 cast-put-spaced c = omega (arith, small-at (c .before .before .before .before .before .before .args .numbers .now) (c .before .before .before .loop .j) (c .before .before .before .before .before .before .pre .0) (c .before .before .loop-test .taken))
 
 put-spaced-requires : tie.Need-put-spaced-requires Inv-loop μ-loop
-put-spaced-requires c κs = part-room (c .before .before .before .loop .inv) (c .before .before .loop-test .taken)
+put-spaced-requires c κs = row-room (c .before .before .before .loop .inv) (c .before .before .loop-test .taken)
 
 add-at : tie.Need-add-at Inv-loop μ-loop
-add-at c = omega (arith, row-room (c .before .before .before .before .before .before .loop .inv) (c .before .before .before .before .before .loop-test .taken), c .before .before .put-spaced .ensures .0)
+add-at c = omega (arith, row-end (c .before .before .before .before .before .before .loop .inv) (c .before .before .before .before .before .loop-test .taken) (c .before .before .put-spaced .ensures))
 
 add-j : tie.Need-add-j Inv-loop μ-loop
 add-j c = search needs
@@ -50,7 +50,7 @@ loop-less : tie.Need-loop-less Inv-loop μ-loop
 loop-less c = search needs
 
 loop-again : tie.Need-loop-again Inv-loop μ-loop
-loop-again c = row-more (c .before .before .before .before .before .before .loop .inv) (c .before .before .before .before .before .loop-test .taken) (c .before .before .put-spaced .ensures .0) (c .before .before .put-spaced .ensures .1)
+loop-again c = row-more (c .before .before .before .before .before .before .loop .inv) (c .before .before .before .before .before .loop-test .taken) (c .before .before .put-spaced .ensures)
 
 same-length : tie.Need-same-length Inv-loop μ-loop
 same-length c = row-kept (c .before .loop .inv)

@@ -1,27 +1,28 @@
--- `put_word` copies the word. The invariant (`Copied`): its first i bytes stand in front. Assumes nothing.
+-- `put_word` copies the word. The invariant (`Row`): its first i bytes stand in front. Assumes nothing.
 use borrow.Author.Needs.{needs}
 use Prim.Native.Nat.{_-_}
 use mathlib.Core.Path.{refl}
 use native.Mathlib.Omega.{arith}
 use lib.ListN.{length}
-use Rattle.text_lines.proofs.LineLaws.{Copied, copied-kept, copied-more, copied-done}
+use Rattle.lists.proofs.RowLaws.{Row, begun, row-kept, row-store-within, row-store, row-done}
+use Rattle.text_lines.proofs.LineLaws.{byte, bytes, bytes-rows}
 use Rattle.text_lines.proofs.put_word.Statement.{statement}
 use Rattle.text_lines.proofs.put_word.Tie as tie
 
 abbrev Inv-loop : tie.InvT-loop
-Inv-loop out₀ word i₀ out i = Copied word out₀ out i
+Inv-loop out₀ word i₀ out i = Row byte bytes word out₀ out i i
 
 abbrev μ-loop : tie.MeasureT-loop
 μ-loop out₀ word i₀ out i = length word - i
 
 loop-holds : tie.Need-loop-holds Inv-loop μ-loop
-loop-holds c = record { few = omega arith; holds = refl }
+loop-holds c = begun _ _ bytes-rows (c .pre)
 
 shared-slice-read-out : tie.Need-shared-slice-read-out Inv-loop μ-loop
 shared-slice-read-out c = search needs
 
 slice-write-out : tie.Need-slice-write-out Inv-loop μ-loop
-slice-write-out c = omega (arith, copied-kept (c .before .before .loop .inv) (c .before .before .before .pre))
+slice-write-out c = omega (arith, row-kept (c .before .before .loop .inv), row-store-within (c .before .before .loop .inv) (c .before .loop-test .taken) refl)
 
 add-i : tie.Need-add-i Inv-loop μ-loop
 add-i c = search needs
@@ -30,13 +31,13 @@ loop-less : tie.Need-loop-less Inv-loop μ-loop
 loop-less c = search needs
 
 loop-again : tie.Need-loop-again Inv-loop μ-loop
-loop-again c = copied-more (c .before .before .loop .inv) (c .before .before .before .pre) (c .before .loop-test .taken)
+loop-again c = row-store (c .before .before .loop .inv) (c .before .loop-test .taken) refl
 
 same-length : tie.Need-same-length Inv-loop μ-loop
-same-length c = copied-kept (c .before .loop .inv) (c .before .before .pre)
+same-length c = row-kept (c .before .loop .inv)
 
 returns : tie.Need-returns Inv-loop μ-loop
-returns c = copied-done (c .before .loop .inv) (c .before .before .pre) (c .loop-test .left)
+returns c = row-done (c .before .loop .inv) (c .loop-test .left)
 
 pub put-word-spec : {M : Type 1} → statement M
 put-word-spec =
