@@ -140,11 +140,6 @@ module _ (sheet : List ℕ) (S : Sheet) (a : accepted sheet ≡ got S []) where
       yes : Rule S s → holds S s ≡ true
       yes r = let f = slip-read slip s [] e in rule-holds S s (f .0) (f .1) (formed-parts S s w) r
 
-  -- and no otherwise
-  pub check-answers : (slip : List ℕ) (s : Slip) → readSlip slip ≡ got s [] → wellFormed S s ≡ true → checkOn sheet slip ≡ got (holds S s) []
-  unfolding checkOn judgedOn after
-  check-answers slip s e w = rw (a, e, w)
-
 below-every : (n : ℕ) (xs : List ℕ) → Below n xs → every (λ i. ltb i n) xs ≡ true
 unfolding every
 below-every n [] b = refl

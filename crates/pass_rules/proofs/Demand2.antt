@@ -29,7 +29,7 @@ use Rattle.pass_rules.proofs.AcceptedLaws.{accepted-got, accepted-good}
 use Rattle.pass_rules.proofs.ForcedLaws.{forced-is, is-forced, forced-met}
 use Rattle.pass_rules.proofs.RouteLaws.{route-stands, route-left, left-route}
 use Rattle.pass_rules.proofs.SlipOfPass.{PassSlipIs, marks, blames, pass-slip-is, pass-finishes, pass-verdict-in, pass-mark-in}
-use Rattle.pass_rules.proofs.VerdictLaws.{NoWalkOn, sheet-none, none-sheet, stands-all, all-stands, pruned-mark, other-mark, mark-forced, forced-mark, verdict-low, VerdictIs, verdict-is, one, two, three, stands}
+use Rattle.pass_rules.proofs.VerdictLaws.{NoWalkOn, no-walk, stands-all, all-stands, pruned-mark, other-mark, mark-forced, forced-mark, verdict-low, VerdictIs, verdict-is, one, two, three, stands}
 use Rattle.pass_rules.specs.Accepted.{accepted}
 use Rattle.pass_rules.specs.Pass.{finished, passOn, verdictIn, markIn, marksIn, Refuses}
 use Rattle.pass_rules.specs.Route.{Route, demandedNodes, marked, Forced}
@@ -92,21 +92,21 @@ demanded-met S e = go (true-or-false (fitsSheet S (demandedNodes S)))
   where
     go : (fitsSheet S (demandedNodes S) ≡ true) ⊎ (fitsSheet S (demandedNodes S) ≡ false) → fitsSheet S (demandedNodes S) ≡ true
     go (inl q) = q
-    go (inr q) = absurd (true≢false (sym e ∙ none-sheet S (required S) (demanded-required S .0 (sheet-none S (demandedNodes S) q))))
+    go (inr q) = absurd (true≢false (sym e ∙ no-walk S (required S) .1 (demanded-required S .0 (no-walk S (demandedNodes S) .0 q))))
 
 -- where the verdict is not 0, a walk is missing, and the other way
 refusal-is : (S : Sheet) → (verdict S .number ≡ 0 → ⊥) → Refusal S
 refusal-is S n = go (verdict S) (verdict-is S) n
   where
     go : (v : Verdict) → VerdictIs S v → (v .number ≡ 0 → ⊥) → Refusal S
-    go v (one e) n = inr (λ w f. sheet-none S [] e w (fit-narrower (S .graph) (isForbidden S) (isForbidden S) (demandedNodes S) [] (S .source) (S .target) w (λ i h o. o) (λ g m. absurd (member-none g m)) f))
-    go v (two i s h m e l) n = inl (i, h, m, sheet-none S (i ∷ []) e)
-    go v (three s m e) n = inr (demanded-required S .1 (sheet-none S (required S) e))
+    go v (one e) n = inr (λ w f. no-walk S [] .0 e w (fit-narrower (S .graph) (isForbidden S) (isForbidden S) (demandedNodes S) [] (S .source) (S .target) w (λ i h o. o) (λ g m. absurd (member-none g m)) f))
+    go v (two i s h m e l) n = inl (i, h, m, no-walk S (i ∷ []) .0 e)
+    go v (three s m e) n = inr (demanded-required S .1 (no-walk S (required S) .0 e))
     go v (stands s m e) n = absurd (n refl)
 
 is-refusal : (S : Sheet) → Refusal S → verdict S .number ≡ 0 → ⊥
-is-refusal S (inl r) e = true≢false (sym (stands-all S e .each (r .0) (r .1) (r .2)) ∙ none-sheet S (r .0 ∷ []) (r .3))
-is-refusal S (inr n) e = true≢false (sym (stands-all S e .together) ∙ none-sheet S (required S) (demanded-required S .0 n))
+is-refusal S (inl r) e = true≢false (sym (stands-all S e .each (r .0) (r .1) (r .2)) ∙ no-walk S (r .0 ∷ []) .1 (r .3))
+is-refusal S (inr n) e = true≢false (sym (stands-all S e .together) ∙ no-walk S (required S) .1 (demanded-required S .0 n))
 
 -- no slip of verdict 0 reads as one with goals and reasons
 no-marks : (ms : List ℕ) (s : Slip) → readSlip (0 ∷ ms) ≡ got s [] → ⊥
@@ -147,7 +147,7 @@ module _ (sheet : List ℕ) (S : Sheet) (a : accepted sheet ≡ got S []) where
       → (markIn slip i ≡ 2) ↔ NoWalkOn S (i ∷ [])
   prune-exact slip e z i h o =
       let m = marks-exact slip e z i h in
-      (λ q. sheet-none S (i ∷ []) (pruned-mark S i o .0 (sym m ∙ q)), λ n. m ∙ pruned-mark S i o .1 (none-sheet S (i ∷ []) n))
+      (λ q. no-walk S (i ∷ []) .0 (pruned-mark S i o .0 (sym m ∙ q)), λ n. m ∙ pruned-mark S i o .1 (no-walk S (i ∷ []) .1 n))
 
   -- A slip of pass that has goals and reasons is that of a refused round, and the other way.
   pub refuses-is : (s : Slip) → Refuses sheet s → (verdict S .number ≡ 0 → ⊥) × (s ≡ slipFor S (verdict S .number) (verdict S .goals))

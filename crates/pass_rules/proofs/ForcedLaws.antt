@@ -20,7 +20,7 @@ use Rattle.sheet.specs.Sheet.{Sheet, isForbidden, allArcs, endsMandatory}
 use Rattle.walks.proofs.Join.{meets-at, ends-met, first-item, last-item}
 use Rattle.walks.proofs.LeastLaw.{fit-walk}
 use Rattle.walks.specs.Graph.{arcItem, tailOf, headOf, items}
-use Rattle.pass_rules.proofs.VerdictLaws.{SomeWalkOn, sheet-some, one-fits, Stands}
+use Rattle.pass_rules.proofs.VerdictLaws.{SomeWalkOn, some-walk, one-fits, Stands}
 use Rattle.pass_rules.specs.Route.{Forced, is-source, is-target, ends-arc}
 use Rattle.pass_rules.specs.Verdict.{fitsSheet, isForced}
 
@@ -63,12 +63,12 @@ module _ (S : Sheet) where
   -- where the verdict is 0, some walk meets each of them
   pub forced-met : Stands S → (p : ℕ) → Forced S p → fitsSheet S (p ∷ []) ≡ true
   unfolding arcItem
-  forced-met z p (is-source q) = let v = sheet-some S [] (z .some) in one-fits S [] v p (rw q (first-item (S .graph) (S .source) (v .way)))
+  forced-met z p (is-source q) = let v = some-walk S [] .0 (z .some) in one-fits S [] v p (rw q (first-item (S .graph) (S .source) (v .way)))
   forced-met z p (is-target q) =
-      let v = sheet-some S [] (z .some) in
+      let v = some-walk S [] .0 (z .some) in
       one-fits S [] v p
       (rw q (last-item (S .graph) (isForbidden S) (S .source) (S .target) (v .way) (fit-walk (S .graph) (isForbidden S) [] (S .target) (S .source) (v .way) (v .fitting) .0)))
-  forced-met z p (ends-arc l h m e) = met (sheet-some S (arcItem (S .graph) l ∷ []) (z .each (arcItem (S .graph) l) item m)) e
+  forced-met z p (ends-arc l h m e) = met (some-walk S (arcItem (S .graph) l ∷ []) .0 (z .each (arcItem (S .graph) l) item m)) e
     where
       item : arcItem (S .graph) l < S .graph .nodes + length (S .graph .arcs)
       item = omega arith

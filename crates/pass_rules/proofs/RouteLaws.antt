@@ -13,7 +13,7 @@ use Rattle.lists.proofs.AscendLaws.{span-member}
 use Rattle.lists.proofs.MemberLaws.{member-none, member-keep, keep-member, every-all}
 use Rattle.lists.proofs.TestLaws.{true-or-false, or-true, and-true, true-and, false-of}
 use Rattle.lists.specs.Lists.{member}
-use Rattle.sheet.proofs.MarkLaws.{Required, required-is, is-item, item-is, ends-mandatory, is-forbidden, forbidden-is, is-mandatory, mandatory-is}
+use Rattle.sheet.proofs.MarkLaws.{Required, required-is, is-item, item-is, ends-mandatory, forbidden-mark, is-mandatory, mandatory-mark}
 use Rattle.sheet.specs.Sheet.{Sheet, markOf, isOpen, isMandatory, isForbidden, allItems, allArcs, endsMandatory, required}
 use Rattle.walks.proofs.FitsLaws.{fit-narrower}
 use Rattle.walks.proofs.Join.{meets-all, meets-at, ends-met, fit-clear, first-item, last-item}
@@ -78,7 +78,7 @@ module _ (S : Sheet) (w : List ℕ) (R : Route S w) where
       go : member i met ≡ true → (isOpen S i ≡ true) ⊎ (isOpen S i ≡ false) → ⊥
       go m (inl o) = true≢false (sym (one-fits S (mandatory S) some i m) ∙ pruned-mark S i o .0 e)
       go m (inr o) =
-          true≢false (sym (is-forbidden S i (sym (other-mark S i o) ∙ e))
+          true≢false (sym (forbidden-mark S i .1 (sym (other-mark S i o) ∙ e))
           ∙ fit-clear (S .graph) (isForbidden S) (mandatory S) (S .source) (S .target) w i (R .obeys) m)
 
   -- and it meets each item that ends mandatory
@@ -131,7 +131,7 @@ module _ (S : Sheet) where
   pub route-left : (w : List ℕ) → Route S w → Route (marked S (newMarks S)) w
   unfolding left mandatory
   route-left w R = record {
-    obeys = fit-again (S .graph) (isForbidden S) (isForbidden left) (mandatory S) (mandatory left) (S .source) (S .target) w (R .obeys) (λ i m. false-of (isForbidden left i) (λ q. clear-of i m (forbidden-is left i q))) meets;
+    obeys = fit-again (S .graph) (isForbidden S) (isForbidden left) (mandatory S) (mandatory left) (S .source) (S .target) w (R .obeys) (λ i m. false-of (isForbidden left i) (λ q. clear-of i m (forbidden-mark left i .0 q))) meets;
     simple = R .simple;
     short = R .short;
   }
@@ -143,7 +143,7 @@ module _ (S : Sheet) where
       meets g m =
           let k = keep-member (isMandatory left) g (allItems (S .graph)) m in
           let h = item-is (S .graph) g (k .0) in
-          route-meets S w R g h (sym (left-mark g h) ∙ mandatory-is left g (k .1))
+          route-meets S w R g h (sym (left-mark g h) ∙ mandatory-mark left g .0 (k .1))
 
   pub left-route : (w : List ℕ) → Route (marked S (newMarks S)) w → Route S w
   unfolding left mandatory
@@ -154,10 +154,10 @@ module _ (S : Sheet) where
   }
     where
       clear-of : (i : ℕ) → i < itemCount (S .graph) → isForbidden left i ≡ false → isForbidden S i ≡ false
-      clear-of i h o = false-of (isForbidden S i) (λ q. true≢false (sym (is-forbidden left i (left-mark i h ∙ forbidden-stays S i (forbidden-is S i q))) ∙ o))
+      clear-of i h o = false-of (isForbidden S i) (λ q. true≢false (sym (forbidden-mark left i .1 (left-mark i h ∙ forbidden-stays S i (forbidden-mark S i .0 q))) ∙ o))
 
       asked : (i : ℕ) → member i (mandatory S) ≡ true → member i (mandatory left) ≡ true
       asked i m =
           let k = keep-member (isMandatory S) i (allItems (S .graph)) m in
           let h = item-is (S .graph) i (k .0) in
-          member-keep (isMandatory left) i (allItems (S .graph)) (k .0) (is-mandatory left i (left-mark i h ∙ mandatory-stays S i (mandatory-is S i (k .1))))
+          member-keep (isMandatory left) i (allItems (S .graph)) (k .0) (is-mandatory left i (left-mark i h ∙ mandatory-stays S i (mandatory-mark S i .0 (k .1))))

@@ -9,7 +9,7 @@ use Rattle.lists.proofs.AscendLaws.{keep-lowest}
 use Rattle.lists.proofs.MemberLaws.{member-head, member-cases, member-none, keep-member, member-keep}
 use Rattle.lists.proofs.TestLaws.{and-true, true-and, false-of, not-true}
 use Rattle.lists.specs.Lists.{pick, member}
-use Rattle.sheet.proofs.MarkLaws.{is-item, item-is, open-is}
+use Rattle.sheet.proofs.MarkLaws.{is-item, item-is, open-mark}
 use Rattle.sheet.specs.Sheet.{Sheet, markOf, isOpen, isMandatory, isForbidden, allItems, required}
 use Rattle.walks.proofs.FitsLaws.{fits-mono, fits-none, none-fits, fits-some, some-fits}
 use Rattle.walks.proofs.GoalLaws.{Includes}
@@ -27,21 +27,13 @@ abbrev pub SomeWalkOn : Sheet → List ℕ → Type 0
 SomeWalkOn S goals = SomeWalk (S .graph) (S .source) (S .target) (S .limit) (isForbidden S) goals
 
 module _ (S : Sheet) (goals : List ℕ) where
-  pub sheet-none : fitsSheet S goals ≡ false → NoWalkOn S goals
+  pub no-walk : (fitsSheet S goals ≡ false) ↔ NoWalkOn S goals
   unfolding fitsSheet
-  sheet-none e = fits-none (S .graph) (S .source) (S .target) (S .limit) (isForbidden S) goals e
+  no-walk = (fits-none (S .graph) (S .source) (S .target) (S .limit) (isForbidden S) goals, none-fits (S .graph) (S .source) (S .target) (S .limit) (isForbidden S) goals)
 
-  pub none-sheet : NoWalkOn S goals → fitsSheet S goals ≡ false
+  pub some-walk : (fitsSheet S goals ≡ true) ↔ SomeWalkOn S goals
   unfolding fitsSheet
-  none-sheet n = none-fits (S .graph) (S .source) (S .target) (S .limit) (isForbidden S) goals n
-
-  pub sheet-some : fitsSheet S goals ≡ true → SomeWalkOn S goals
-  unfolding fitsSheet
-  sheet-some e = fits-some (S .graph) (S .source) (S .target) (S .limit) (isForbidden S) goals e
-
-  pub some-sheet : SomeWalkOn S goals → fitsSheet S goals ≡ true
-  unfolding fitsSheet
-  some-sheet v = some-fits (S .graph) (S .source) (S .target) (S .limit) (isForbidden S) goals v
+  some-walk = (fits-some (S .graph) (S .source) (S .target) (S .limit) (isForbidden S) goals, some-fits (S .graph) (S .source) (S .target) (S .limit) (isForbidden S) goals)
 
 pub fits-fewer : (S : Sheet) (gs gs′ : List ℕ) → Includes gs gs′ → fitsSheet S gs ≡ true → fitsSheet S gs′ ≡ true
 unfolding fitsSheet
@@ -53,7 +45,7 @@ module _ (S : Sheet) (goals : List ℕ) (v : SomeWalkOn S goals) where
   pub met-fits : (gs : List ℕ) → ((g : ℕ) → member g gs ≡ true → member g (items (S .graph) (S .source) (v .way)) ≡ true) → fitsSheet S gs ≡ true
   met-fits gs h =
       let f = fit-walk (S .graph) (isForbidden S) goals (S .target) (S .source) (v .way) (v .fitting) in
-      some-sheet S gs
+      some-walk S gs .1
       (record {
         way = v .way;
         fitting = walk-fit (S .graph) (isForbidden S) gs (S .target) (S .source) (v .way) (f .0) (meets-all (S .graph) gs (S .source) (v .way) h);
@@ -160,7 +152,7 @@ refused-goals S n = go (verdict S) (verdict-is S) n
 -- the mark of an open item after verdict 0
 new-mark-open : (S : Sheet) (i : ℕ) → isOpen S i ≡ true → newMark S i ≡ pick (not (fitsSheet S (i ∷ []))) 2 (pick (isForced S i) 1 0)
 unfolding newMark isPruned
-new-mark-open S i o = rw (o, open-is S i o)
+new-mark-open S i o = rw (o, open-mark S i .0 o)
 
 pub pruned-mark : (S : Sheet) (i : ℕ) → isOpen S i ≡ true → (newMark S i ≡ 2) ↔ (fitsSheet S (i ∷ []) ≡ false)
 pruned-mark S i o = (λ e. go (fitsSheet S (i ∷ [])) (isForced S i) (sym (new-mark-open S i o) ∙ e), λ n. new-mark-open S i o ∙ rw n)
@@ -176,10 +168,10 @@ unfolding newMark isPruned
 other-mark S i o = rw o
 
 pub forbidden-stays : (S : Sheet) (i : ℕ) → markOf S i ≡ 2 → newMark S i ≡ 2
-forbidden-stays S i e = other-mark S i (false-of (isOpen S i) (λ o. absurd (omega (arith, open-is S i o, e)))) ∙ e
+forbidden-stays S i e = other-mark S i (false-of (isOpen S i) (λ o. absurd (omega (arith, open-mark S i .0 o, e)))) ∙ e
 
 pub mandatory-stays : (S : Sheet) (i : ℕ) → markOf S i ≡ 1 → newMark S i ≡ 1
-mandatory-stays S i e = other-mark S i (false-of (isOpen S i) (λ o. absurd (omega (arith, open-is S i o, e)))) ∙ e
+mandatory-stays S i e = other-mark S i (false-of (isOpen S i) (λ o. absurd (omega (arith, open-mark S i .0 o, e)))) ∙ e
 
 pub new-mark-low : (S : Sheet) (i : ℕ) → markOf S i ≤ 2 → newMark S i ≤ 2
 unfolding newMark

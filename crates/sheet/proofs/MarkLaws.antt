@@ -1,7 +1,7 @@
 -- Required nodes ascend, are nodes, and are mandatory or end a mandatory arc. Assumes nothing.
 use Prim.Native.Nat.{ℕ, _<_}
 use mathlib.Core.Path.{_≡_, sym, ap, _∙_}
-use mathlib.Core.Logic.{_⊎_, inl, inr}
+use mathlib.Core.Logic.{_⊎_, inl, inr, _↔_}
 use mathlib.Core.Bool.{Bool, true, not, _&&_, _||_, false≢true}
 use mathlib.Core.List.{List, [], _∷_}
 use native.Mathlib.Omega.{arith}
@@ -105,26 +105,20 @@ pub required-below : (S : Sheet) → Below (S .graph .nodes) (required S)
 required-below S = below-all (S .graph .nodes) (required S) (λ p m. required-is S p m .node)
 
 -- an item is open, mandatory or forbidden by its mark
-pub is-open : (S : Sheet) (i : ℕ) → markOf S i ≡ 0 → isOpen S i ≡ true
+pub open-mark : (S : Sheet) (i : ℕ) → (isOpen S i ≡ true) ↔ (markOf S i ≡ 0)
 unfolding isOpen
-is-open S i e = eq-eqb (markOf S i) 0 e
+open-mark S i = (eqb-true (markOf S i) 0, eq-eqb (markOf S i) 0)
 
-pub open-is : (S : Sheet) (i : ℕ) → isOpen S i ≡ true → markOf S i ≡ 0
-unfolding isOpen
-open-is S i e = eqb-true (markOf S i) 0 e
+pub mandatory-mark : (S : Sheet) (i : ℕ) → (isMandatory S i ≡ true) ↔ (markOf S i ≡ 1)
+unfolding isMandatory
+mandatory-mark S i = (eqb-true (markOf S i) 1, eq-eqb (markOf S i) 1)
+
+pub forbidden-mark : (S : Sheet) (i : ℕ) → (isForbidden S i ≡ true) ↔ (markOf S i ≡ 2)
+unfolding isForbidden markOf
+forbidden-mark S i = (eqb-true (markOf S i) 2, eq-eqb (markOf S i) 2)
+
+pub is-open : (S : Sheet) (i : ℕ) → markOf S i ≡ 0 → isOpen S i ≡ true
+is-open S i = open-mark S i .1
 
 pub is-mandatory : (S : Sheet) (i : ℕ) → markOf S i ≡ 1 → isMandatory S i ≡ true
-unfolding isMandatory
-is-mandatory S i e = eq-eqb (markOf S i) 1 e
-
-pub mandatory-is : (S : Sheet) (i : ℕ) → isMandatory S i ≡ true → markOf S i ≡ 1
-unfolding isMandatory
-mandatory-is S i e = eqb-true (markOf S i) 1 e
-
-pub is-forbidden : (S : Sheet) (i : ℕ) → markOf S i ≡ 2 → isForbidden S i ≡ true
-unfolding isForbidden markOf
-is-forbidden S i e = eq-eqb (markOf S i) 2 e
-
-pub forbidden-is : (S : Sheet) (i : ℕ) → isForbidden S i ≡ true → markOf S i ≡ 2
-unfolding isForbidden markOf
-forbidden-is S i e = eqb-true (markOf S i) 2 e
+is-mandatory S i = mandatory-mark S i .1

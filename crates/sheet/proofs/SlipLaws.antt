@@ -13,7 +13,7 @@ use Rattle.varint.proofs.VarintLaws.{number-back, numbers-back, numbers-size, g
 use Rattle.lists.proofs.RowLaws.{rows-append}
 use Rattle.varint.proofs.WriteLaws.{numbers-rows}
 use Rattle.varint.specs.Varint.{got, after, readNumber, number, writeNumber, writeNumbers, refuse, Read}
-use Rattle.sheet.specs.Slip.{Slip, slipNumbers, slipBytes, marksBytes, readList, slipEnd, slipReasons, slipGoals, as17, readSlip}
+use Rattle.sheet.specs.Slip.{Slip, slipNumbers, slipBytes, readList, slipEnd, slipReasons, slipGoals, as17, readSlip}
 
 -- a slip as pass and reason write it: at most eight goals and 576 reasons
 pub record Small (s : Slip) : Type 0 where
@@ -40,13 +40,6 @@ unfolding slipBytes slipNumbers
 slip-size s b =
     let n = numbers-size (slipNumbers s) (numbers-below s b) in
     (omega (arith, n .0, length-append (s .goals) (length (s .reasons) ∷ s .reasons), b .few, b .many), n .1)
-
--- and so has the slip of verdict 0
-pub marks-size : (ms : List ℕ) → length ms ≤ 576 → Below 3 ms → (length (marksBytes ms) ≤ 1200) × Below 256 (marksBytes ms)
-unfolding marksBytes
-marks-size ms h b =
-    let n = numbers-size (0 ∷ ms) (omega arith, below-le 3 16384 ms (omega arith) b) in
-    (omega (arith, n .0), n .1)
 
 -- a count and as many numbers read back
 list-back : (xs t : List ℕ) → length xs < 268435456 → Below 268435456 xs → readList (writeNumbers (length xs ∷ xs) ++ t) ≡ got xs t

@@ -37,10 +37,6 @@ cross-shrunk G l rs =
     (keep-shrunk (λ g. not (eqb g (headOf G l))) (keep (λ g. not (eqb g (arcItem G l))) rs))
 
 module _ (G : Graph) (closed : ℕ → Bool) (b : ℕ) where
-  walk-node : (a : ℕ) (w : List ℕ) → Walk G closed a b w → a < G .nodes
-  walk-node a [] W = W .node
-  walk-node a (l ∷ w) W = W .0 .node
-
   -- a walk from a with the goals rs left there to b with none left, no longer than k, that comes to no state twice
   record Erased (a : ℕ) (rs : List ℕ) (k : ℕ) : Type 0 where
     way : List ℕ

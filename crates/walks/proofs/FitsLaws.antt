@@ -4,7 +4,7 @@ use mathlib.Core.Path.{_≡_, refl, sym, ap, _∙_}
 use mathlib.Core.Bool.{Bool, true, false, false≢true, true≢false}
 use mathlib.Core.List.{List, [], _∷_}
 use native.Mathlib.Omega.{arith}
-use borrow.Author.Tests.{leb-true, leb-false, le-leb}
+use borrow.Author.Tests.{leb-true, leb-false}
 use Rattle.lists.proofs.TestLaws.{false-of}
 use Rattle.walks.proofs.GoalLaws.{Under, Includes}
 use Rattle.walks.proofs.Join.{meets-all, meets-at}
@@ -12,11 +12,6 @@ use Rattle.walks.proofs.LeastLaw.{fit-walk, walk-fit, Upto, Attained, i
 use Rattle.walks.specs.Graph.{Graph, headOf, arcItem, itemCount, len, fit, least, fits}
 use Rattle.walks.specs.Lengths.{Least, none, some, within}
 use Rattle.walks.specs.Walk.{Walk, SomeWalk, NoWalk}
-
-upto-within : (r : Least) (k : ℕ) → Upto r k → within r k ≡ true
-unfolding within
-upto-within none k h = absurd h
-upto-within (some a) k h = le-leb a k h
 
 not-within : (r : Least) (j k : ℕ) → within r k ≡ false → Upto r j → k < j
 unfolding within

@@ -23,26 +23,6 @@ use Rattle.walks.specs.Walk.{Step, Walk}
 abbrev pub Includes : List ℕ → List ℕ → Type 0
 Includes gs hs = (x : ℕ) → member x hs ≡ true → member x gs ≡ true
 
--- order and repeats of goals do not matter
-pub least-members : (G : Graph) (closed : ℕ → Bool) (gs hs : List ℕ) (a b : ℕ) → Includes gs hs → Includes hs gs
-    → least G closed gs a b ≡ least G closed hs a b
-least-members G closed gs hs a b i j =
-    least-unique G closed hs a b (least G closed gs a b) (least G closed hs a b)
-    (record {
-      attained = attained (least G closed gs a b) (is-least G closed gs a b .attained);
-      lower = λ w e. is-least G closed gs a b .lower w (other hs gs j w e);
-    })
-    (is-least G closed hs a b)
-  where
-    other : (gs hs : List ℕ) → Includes gs hs → (w : List ℕ) → fit G closed gs a b w ≡ true → fit G closed hs a b w ≡ true
-    other gs hs i w e =
-        let f = fit-walk G closed gs b a w e in
-        walk-fit G closed hs b a w (f .0) (meets-all G hs a w (λ x m. meets-at G gs a w x (f .1) (i x m)))
-
-    attained : (r : Least) → Attained G (fit G closed gs a b) r → Attained G (fit G closed hs a b) r
-    attained none t = tt
-    attained (some k) t = (t .0, other gs hs i (t .0) (t .1), t .2)
-
 -- where a goal is entered and left, by the kind of goal
 pub entry-node : (G : Graph) (g : ℕ) → g < G .nodes → entryOf G g ≡ g
 unfolding entryOf

@@ -10,7 +10,7 @@ use lib.ListN.{length}
 use borrow.Author.Tests.{eq-eqb}
 use Rattle.lists.proofs.MemberLaws.{member-cases, member-none}
 use Rattle.lists.specs.Lists.{member, without, keep, add}
-use Rattle.walks.proofs.GoalLaws.{Item, node, arc, last-goal, entry-node, exit-node, own-node, entry-arc, exit-arc, own-arc, own-shut}
+use Rattle.walks.proofs.GoalLaws.{Item, node, arc, last-goal, entry-node, exit-node, own-node, entry-arc, exit-arc, own-arc}
 use Rattle.walks.specs.Goals.{entryOf, exitOf, ownOf, lastly, anyLast}
 use Rattle.walks.specs.Graph.{Graph, tailOf, headOf, weightOf, arcItem, least}
 use Rattle.walks.specs.Lengths.{Least, none, some, lesser, plus}
@@ -24,11 +24,6 @@ plus-zero : (r : Least) → plus r (some 0) ≡ r
 unfolding plus
 plus-zero none = refl
 plus-zero (some a) = ap some (omega arith)
-
-plus-none : (r q : Least) → plus (plus r none) q ≡ none
-unfolding plus
-plus-none none q = refl
-plus-none (some a) q = refl
 
 without-self : (g : ℕ) → without g (g ∷ []) ≡ []
 unfolding without keep add
@@ -54,7 +49,3 @@ module _ (G : Graph) (closed : ℕ → Bool) where
   pub through-arc : (l a b : ℕ) → l < length (G .arcs) → closed (arcItem G l) ≡ false
       → least G closed (arcItem G l ∷ []) a b ≡ plus (plus (least G closed [] a (tailOf G l)) (some (weightOf G l))) (least G closed [] (headOf G l) b)
   through-arc l a b h o = through-one (arcItem G l) a b (arc l h) ∙ rw (entry-arc G l, exit-arc G l, own-arc G closed l o)
-
-  -- no walk leads through a closed arc
-  pub through-closed-arc : (l a b : ℕ) → l < length (G .arcs) → closed (arcItem G l) ≡ true → least G closed (arcItem G l ∷ []) a b ≡ none
-  through-closed-arc l a b h c = through-one (arcItem G l) a b (arc l h) ∙ rw (own-shut G closed l c) (plus-none (least G closed [] a (entryOf G (arcItem G l))) _)
