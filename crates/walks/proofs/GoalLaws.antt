@@ -1,8 +1,8 @@
 -- The goals matter as a set; and the least length by the goal whose first meeting is the last along the walk.
 use Prim.Native.Nat.{ℕ, _+_, _-_, _<_}
 use mathlib.Core.Path.{_≡_, refl, sym, ap, _∙_, subst}
-use mathlib.Core.Logic.{_⊎_, inl, inr}
-use mathlib.Core.Bool.{Bool, true, false, not}
+use mathlib.Core.Logic.{_⊎_, inl, inr, ⊎-elim}
+use mathlib.Core.Bool.{Bool, true, false, not, true≢false}
 use mathlib.Core.List.{List, [], _∷_, _++_}
 use native.Mathlib.Omega.{arith}
 use lib.ListN.{length}
@@ -10,10 +10,9 @@ use lib.Dec.{eqb, leb}
 use borrow.Author.Tests.{leb-true, leb-false, eqb-true, eqb-false, lt-ltb, le-ltb}
 use Rattle.lists.proofs.MemberLaws.{member-head, member-tail, member-cases, member-none, member-keep, keep-member}
 use Rattle.lists.proofs.TestLaws.{not-true, true-or-false}
-use Rattle.lists.specs.Lists.{member, keep, without}
-use Rattle.walks.proofs.FewArcs.{cross, rest}
+use Rattle.lists.specs.Lists.{member, without}
 use Rattle.walks.proofs.Join.{meets-none, meets-all, meets-at, len-append, first-item, first-arc, walk-append, items-left, items-right, walk-first, walk-last}
-use Rattle.walks.proofs.LeastLaw.{left, rest-left, meets-rest, fit-walk, walk-fit, Upto, upto-le, Attained, is-least, least-unique}
+use Rattle.walks.proofs.LeastLaw.{fit-walk, walk-fit, Upto, upto-le, Attained, is-least, least-unique}
 use Rattle.walks.specs.Goals.{entryOf, exitOf, over, ownOf, lastly, anyLast}
 use Rattle.walks.specs.Graph.{Graph, tailOf, headOf, weightOf, arcItem, items, len, meets, fit, least}
 use Rattle.walks.specs.Lengths.{Least, none, some, lesser, plus}
@@ -87,108 +86,7 @@ some-member : (xs : List ℕ) → (xs ≡ [] → ⊥) → (x : ℕ) × (member x
 some-member [] n = absurd (n refl)
 some-member (x ∷ xs) n = (x, member-head x xs)
 
--- where only x goes out and nothing is left, x was there
-only : (x : ℕ) (xs : List ℕ) → without x xs ≡ [] → (xs ≡ [] → ⊥) → member x xs ≡ true
-only x xs e n =
-    let y = some-member xs n in go (y .0) (y .1) (others-without xs x .more (y .0) (y .1))
-  where
-    go : (y : ℕ) → member y xs ≡ true → (y ≡ x) ⊎ (member y (without x xs) ≡ true) → member x xs ≡ true
-    go y m (inl q) = subst (λ (z : ℕ). member z xs ≡ true) q m
-    go y m (inr q) = absurd (member-none y (subst (λ (zs : List ℕ). member y zs ≡ true) e q))
-
 module _ (G : Graph) (closed : ℕ → Bool) (b : ℕ) where
-  -- A walk of length k from a, with the goals rs left there, split at the goal that is met last.
-  record Last (a : ℕ) (rs : List ℕ) (k : ℕ) : Type 0 where
-    goal : ℕ
-    among : member goal rs ≡ true
-    to : List ℕ
-    from : List ℕ
-    walk-to : Walk G closed a (entryOf G goal) to
-    walk-from : Walk G closed (exitOf G goal) b from
-    own : ℕ
-    own-is : ownOf G closed goal ≡ some own
-    total : len G to + own + len G from ≡ k
-    met : without goal (rest G rs to) ≡ []
-
-  -- the goal is the node p, which the walk `to` reaches
-  last-node : (a p k : ℕ) (rs to from : List ℕ) → member p rs ≡ true → Walk G closed a p to → Walk G closed p b from
-      → len G to + len G from ≡ k → without p (rest G rs to) ≡ [] → Last a rs k
-  last-node a p k rs to from m P Q t e =
-      let h = walk-last G closed a p to P .0 in
-      record {
-        goal = p;
-        among = m;
-        to = to;
-        from = from;
-        walk-to = rw (entry-node G p h) P;
-        walk-from = rw (exit-node G p h) Q;
-        own = 0;
-        own-is = own-node G closed p h;
-        total = omega (arith, t);
-        met = e;
-      }
-
-  last-arc : (a l k : ℕ) (rs from : List ℕ) → member (arcItem G l) rs ≡ true → Step G closed a l → Walk G closed (headOf G l) b from
-      → weightOf G l + len G from ≡ k → without (arcItem G l) rs ≡ [] → Last a rs k
-  unfolding len
-  last-arc a l k rs from m S Q t e =
-      record {
-        goal = arcItem G l;
-        among = m;
-        to = [];
-        from = from;
-        walk-to = rw (entry-arc G l) (record { node = S .node; open-node = S .open-node; there = sym (S .leaves) });
-        walk-from = rw (exit-arc G l) Q;
-        own = weightOf G l;
-        own-is = own-arc G closed l (S .open-arc);
-        total = omega (arith, t);
-        met = e;
-      }
-
-  without-less : (x y : ℕ) (xs : List ℕ) → member y (without x xs) ≡ true → member y xs ≡ true
-  without-less x y xs m = others-without xs x .fewer y m .0
-
-  cross-less : (l y : ℕ) (xs : List ℕ) → member y (cross G l xs) ≡ true → member y xs ≡ true
-  unfolding cross
-  cross-less l y xs m = without-less (arcItem G l) y xs (without-less (headOf G l) y (without (arcItem G l) xs) m)
-
-  last-later : (a l : ℕ) (rs w : List ℕ) → Step G closed a l → Last (headOf G l) (cross G l rs) (len G w) → Last a rs (len G (l ∷ w))
-  unfolding len
-  last-later a l rs w S L =
-      record {
-        goal = L .goal;
-        among = cross-less l (L .goal) rs (L .among);
-        to = l ∷ L .to;
-        from = L .from;
-        walk-to = (S, L .walk-to);
-        walk-from = L .walk-from;
-        own = L .own;
-        own-is = L .own-is;
-        total = omega (arith, L .total);
-        met = L .met;
-      }
-
-  last : (w : List ℕ) (a : ℕ) (rs : List ℕ) → Walk G closed a b w → rest G rs w ≡ [] → (rs ≡ [] → ⊥) → Last a rs (len G w)
-  unfolding len cross without keep
-  last [] a rs W e n = absurd (n e)
-  last (l ∷ w) a rs W e n = go (empty (without (arcItem G l) rs)) (last w (headOf G l) (cross G l rs) (W .1) e)
-    where
-      stay : Walk G closed (headOf G l) (headOf G l) []
-      stay = let h = walk-first G closed (headOf G l) b w (W .1) in record { node = h .0; open-node = h .1; there = refl }
-
-      go₁ : (without (arcItem G l) rs ≡ [] → ⊥) → (cross G l rs ≡ []) ⊎ (cross G l rs ≡ [] → ⊥) → ((cross G l rs ≡ [] → ⊥) → Last (headOf G l) (cross G l rs) (len G w))
-          → Last a rs (len G (l ∷ w))
-      go₁ n₁ (inl q) ih =
-          last-node a (headOf G l) (len G (l ∷ w)) rs (l ∷ []) w
-          (without-less (arcItem G l) (headOf G l) rs (only (headOf G l) (without (arcItem G l) rs) q n₁)) (W .0, stay) (W .1) (omega arith)
-          (ap (without (headOf G l)) q)
-      go₁ n₁ (inr q) ih = last-later a l rs w (W .0) (ih q)
-
-      go : (without (arcItem G l) rs ≡ []) ⊎ (without (arcItem G l) rs ≡ [] → ⊥)
-          → ((cross G l rs ≡ [] → ⊥) → Last (headOf G l) (cross G l rs) (len G w)) → Last a rs (len G (l ∷ w))
-      go (inl q) ih = last-arc a l (len G (l ∷ w)) rs w (only (arcItem G l) rs q n) (W .0) (W .1) refl q
-      go (inr q) ih = go₁ q (empty (cross G l rs)) ih
-
   -- A walk of length k from a that meets the goals gs, split at the goal that is met last.
   record Parted (a : ℕ) (gs : List ℕ) (k : ℕ) : Type 0 where
     goal : ℕ
@@ -202,46 +100,15 @@ module _ (G : Graph) (closed : ℕ → Bool) (b : ℕ) where
     total : len G to + own + len G from ≡ k
     met : (x : ℕ) → member x gs ≡ true → (x ≡ goal → ⊥) → member x (items G a to) ≡ true
 
-  met-before : (a g : ℕ) (gs to : List ℕ) → without g (rest G (without a gs) to) ≡ [] → (x : ℕ) → member x gs ≡ true → (x ≡ g → ⊥)
-      → member x (items G a to) ≡ true
-  unfolding left
-  met-before a g gs to e x m n = go (true-or-false (member x (items G a to)))
-    where
-      here : (x ≡ g) ⊎ (member x (without g (rest G (without a gs) to)) ≡ true) → ⊥
-      here (inl q) = n q
-      here (inr q) = member-none x (subst (λ (zs : List ℕ). member x zs ≡ true) e q)
-
-      go : (member x (items G a to) ≡ true) ⊎ (member x (items G a to) ≡ false) → member x (items G a to) ≡ true
-      go (inl q) = q
-      go (inr q) =
-          let i : member x (left (items G a to) gs) ≡ true = member-keep (λ y. not (member y (items G a to))) x gs m (rw q) in
-          let j : member x (rest G (without a gs) to) ≡ true = rw (rest-left G a gs to) i in
-          absurd (here (others-without (rest G (without a gs) to) g .more x j))
-
-  -- a split of what is left after the first node is one of the whole
-  part-of : (a k : ℕ) (gs : List ℕ) → Last a (without a gs) k → Parted a gs k
-  part-of a k gs L =
-      record {
-        goal = L .goal;
-        among = without-less a (L .goal) gs (L .among);
-        to = L .to;
-        from = L .from;
-        walk-to = L .walk-to;
-        walk-from = L .walk-from;
-        own = L .own;
-        own-is = L .own-is;
-        total = L .total;
-        met = met-before a (L .goal) gs (L .to) (L .met);
-      }
-
-  -- all goals are the first node
-  part-here : (a : ℕ) (gs w : List ℕ) → Walk G closed a b w → member a gs ≡ true → without a gs ≡ [] → Parted a gs (len G w)
-  unfolding len without keep
-  part-here a gs w W m e =
+  -- every goal is the first node
+  part-node : (a : ℕ) (gs w : List ℕ) → Walk G closed a b w → (gs ≡ [] → ⊥) → ((x : ℕ) → member x gs ≡ true → x ≡ a) → Parted a gs (len G w)
+  unfolding len
+  part-node a gs w W n all =
       let h = walk-first G closed a b w W in
+      let y = some-member gs n in
       record {
         goal = a;
-        among = m;
+        among = subst (λ (x : ℕ). member x gs ≡ true) (all (y .0) (y .1)) (y .1);
         to = [];
         from = w;
         walk-to = rw (entry-node G a (h .0)) (record { node = h .0; open-node = h .1; there = refl });
@@ -249,15 +116,86 @@ module _ (G : Graph) (closed : ℕ → Bool) (b : ℕ) where
         own = 0;
         own-is = own-node G closed a (h .0);
         total = omega arith;
-        met = met-before a a gs [] (ap (without a) e);
+        met = λ x q m. absurd (m (all x q));
       }
 
-  part : (w : List ℕ) (a : ℕ) (gs : List ℕ) → Walk G closed a b w → meets G gs a w ≡ true → (gs ≡ [] → ⊥) → Parted a gs (len G w)
-  part w a gs W e n = go (empty (without a gs))
+  -- the first arc is a goal, and at most the first node besides
+  part-arc : (a l : ℕ) (gs w : List ℕ) → Step G closed a l → Walk G closed (headOf G l) b w → member (arcItem G l) gs ≡ true
+      → ((x : ℕ) → member x gs ≡ true → (x ≡ a) ⊎ (x ≡ arcItem G l)) → Parted a gs (len G (l ∷ w))
+  unfolding len
+  part-arc a l gs w S W m all =
+      record {
+        goal = arcItem G l;
+        among = m;
+        to = [];
+        from = w;
+        walk-to = rw (entry-arc G l) (record { node = S .node; open-node = S .open-node; there = sym (S .leaves) });
+        walk-from = rw (exit-arc G l) W;
+        own = weightOf G l;
+        own-is = own-arc G closed l (S .open-arc);
+        total = omega arith;
+        met = λ x q n. ⊎-elim (λ e. rw e (first-item G a [])) (λ e. absurd (n e)) (all x q);
+      }
+
+  -- the goals hs are met behind the first arc, and the others are its item and the first node
+  part-later : (a l : ℕ) (gs hs w : List ℕ) → Step G closed a l → Includes gs hs
+      → ((x : ℕ) → member x gs ≡ true → (x ≡ a) ⊎ ((x ≡ arcItem G l) ⊎ (member x hs ≡ true))) → Parted (headOf G l) hs (len G w) → Parted a gs (len G (l ∷ w))
+  unfolding len items
+  part-later a l gs hs w S i all P =
+      record {
+        goal = P .goal;
+        among = i (P .goal) (P .among);
+        to = l ∷ P .to;
+        from = P .from;
+        walk-to = (S, P .walk-to);
+        walk-from = P .walk-from;
+        own = P .own;
+        own-is = P .own-is;
+        total = omega (arith, P .total);
+        met = λ x q n. go x n (all x q);
+      }
     where
-      go : (without a gs ≡ []) ⊎ (without a gs ≡ [] → ⊥) → Parted a gs (len G w)
-      go (inl q) = part-here a gs w W (only a gs q n) q
-      go (inr q) = part-of a (len G w) gs (last w a (without a gs) W (meets-rest G gs a w e) q)
+      later : List ℕ
+      later = items G (headOf G l) (P .to)
+
+      go : (x : ℕ) → (x ≡ P .goal → ⊥) → (x ≡ a) ⊎ ((x ≡ arcItem G l) ⊎ (member x hs ≡ true)) → member x (a ∷ arcItem G l ∷ later) ≡ true
+      go x n (inl e) = rw e (member-head a (arcItem G l ∷ later))
+      go x n (inr (inl e)) = rw e (member-tail (arcItem G l) a (arcItem G l ∷ later) (member-head (arcItem G l) later))
+      go x n (inr (inr m)) = member-tail x a (arcItem G l ∷ later) (member-tail x (arcItem G l) later (P .met x m n))
+
+  part : (w : List ℕ) (a : ℕ) (gs : List ℕ) → Walk G closed a b w → meets G gs a w ≡ true → (gs ≡ [] → ⊥) → Parted a gs (len G w)
+  unfolding items
+  part [] a gs W e n = part-node a gs [] W n (λ x q. ⊎-elim (λ p. p) (λ p. absurd (member-none x p)) (member-cases x a [] (meets-at G gs a [] x e q)))
+  part (l ∷ w) a gs W e n = go (empty hs) (part w (headOf G l) hs (W .1) (meets-all G hs (headOf G l) w behind))
+    where
+      i : ℕ
+      i = arcItem G l
+
+      hs : List ℕ
+      hs = without i (without a gs)
+
+      kinds : (x : ℕ) → member x gs ≡ true → (x ≡ a) ⊎ ((x ≡ i) ⊎ (member x hs ≡ true))
+      kinds x q = ⊎-elim inl (λ r. inr (others-without (without a gs) i .more x r)) (others-without gs a .more x q)
+
+      fewer : (x : ℕ) → member x hs ≡ true → (member x gs ≡ true) × (x ≡ a → ⊥) × (x ≡ i → ⊥)
+      fewer x q =
+          let r = others-without (without a gs) i .fewer x q in
+          let s = others-without gs a .fewer x (r .0) in
+          (s .0, s .1, r .1)
+
+      behind : (x : ℕ) → member x hs ≡ true → member x (items G (headOf G l) w) ≡ true
+      behind x q =
+          let f = fewer x q in
+          let later = items G (headOf G l) w in
+          ⊎-elim (λ p. absurd (f .1 p)) (λ m. ⊎-elim (λ p. absurd (f .2 p)) (λ p. p) (member-cases x i later m)) (member-cases x a (i ∷ later) (meets-at G gs a (l ∷ w) x e (f .0)))
+
+      here : hs ≡ [] → (member i gs ≡ true) ⊎ (member i gs ≡ false) → Parted a gs (len G (l ∷ w))
+      here q (inl m) = part-arc a l gs w (W .0) (W .1) m (λ x p. ⊎-elim inl (⊎-elim inr (λ r. absurd (member-none x (rw q at r)))) (kinds x p))
+      here q (inr m) = part-node a gs (l ∷ w) W n (λ x p. ⊎-elim (λ r. r) (⊎-elim (λ r. absurd (true≢false (sym (rw r at p) ∙ m))) (λ r. absurd (member-none x (rw q at r)))) (kinds x p))
+
+      go : (hs ≡ []) ⊎ (hs ≡ [] → ⊥) → ((hs ≡ [] → ⊥) → Parted (headOf G l) hs (len G w)) → Parted a gs (len G (l ∷ w))
+      go (inl q) ih = here q (true-or-false (member i gs))
+      go (inr q) ih = part-later a l gs hs w (W .0) (λ x q. fewer x q .0) kinds (ih q)
 
 plus-upto : (x y : Least) (j k : ℕ) → Upto x j → Upto y k → Upto (plus x y) (j + k)
 unfolding plus
