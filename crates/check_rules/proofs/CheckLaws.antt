@@ -9,7 +9,7 @@ use native.Mathlib.Omega.{arith}
 use lib.ListN.{length}
 use lib.Dec.{eqb, ltb}
 use borrow.Author.Tests.{eqb-true, eqb-false, eq-eqb, ne-eqb, lt-ltb, le-leb}
-use Rattle.lists.proofs.MemberLaws.{every-at, every-all, member-cases, member-none}
+use Rattle.lists.proofs.MemberLaws.{every-at, every-all, member-none, member-one}
 use Rattle.lists.proofs.Pigeonhole.{Below, below-append}
 use Rattle.lists.proofs.TestLaws.{and-true, true-and, not-true, true-or, true-or-false}
 use Rattle.lists.specs.Lists.{pick, member, every, ascends}
@@ -182,15 +182,11 @@ verdict-kinds S f n = go (verdict S) (verdict-is S) n
         more [] e = absurd (true≢false (sym p ∙ ap (fitsSheet S) (sym e) ∙ q))
         more (r ∷ rs) e = omega arith
 
-    only : (i g : ℕ) → isMandatory S i ≡ true → (g ≡ i) ⊎ (member g [] ≡ true) → isMandatory S g ≡ true
-    only i g m (inl q) = rw q m
-    only i g m (inr q) = absurd (member-none g q)
-
     go : (v : Verdict) → VerdictIs S v → (v .number ≡ 0 → ⊥) → Kinds S v
     go v (one e) n = record { count = refl; kind = λ g m. absurd (member-none g m); nodes = λ q. absurd (omega (arith, q)) }
     go v (two i s h m e l) n = record {
       count = refl;
-      kind = λ g q. record { two = λ _. only i g m (member-cases g i [] q); three = λ z. absurd (omega (arith, z)); four = λ z. absurd (omega (arith, z)) };
+      kind = λ g q. record { two = λ _. rw (member-one g i q) m; three = λ z. absurd (omega (arith, z)); four = λ z. absurd (omega (arith, z)) };
       nodes = λ q. absurd (omega (arith, q));
     }
     go v (three s m e) n = record {
@@ -220,9 +216,5 @@ module _ (sheet : List ℕ) (S : Sheet) (a : accepted sheet ≡ got S []) where
       let G : Goals S (i ∷ []) = record { few = omega arith; items = (y .0, tt); rising = refl } in
       let w : WellFormed S s = subst (λ (s : Slip). WellFormed S s) (sym (y .3)) (own-formed S 4 (i ∷ []) G refl (λ q. absurd (omega (arith, q)))) in
       let h : Rule S s = subst (λ (s : Slip). Rule S s) (sym (y .3))
-      (own-rule S 4 (i ∷ []) (not-true (fitsSheet S (i ∷ [])) (p .1)) (λ g m. record { two = λ z. absurd (omega (arith, z)); three = λ z. absurd (omega (arith, z)); four = λ _. only g (p .0) (member-cases g i [] m) })) in
+      (own-rule S 4 (i ∷ []) (not-true (fitsSheet S (i ∷ [])) (p .1)) (λ g m. record { two = λ z. absurd (omega (arith, z)); three = λ z. absurd (omega (arith, z)); four = λ _. rw (member-one g i m) (p .0) })) in
       check-exact sheet S a (x .slip) s (x .says) (parts-formed S s w) .1 h
-    where
-      only : (g : ℕ) → isOpen S i ≡ true → (g ≡ i) ⊎ (member g [] ≡ true) → isOpen S g ≡ true
-      only g o (inl q) = rw q o
-      only g o (inr q) = absurd (member-none g q)

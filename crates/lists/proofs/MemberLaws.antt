@@ -1,7 +1,7 @@
 -- Laws on the entries of lists. Assumes nothing.
 use Prim.Native.Nat.{ℕ}
 use mathlib.Core.Path.{_≡_, refl, sym, ap, _∙_}
-use mathlib.Core.Logic.{_⊎_, inl, inr}
+use mathlib.Core.Logic.{_⊎_, inl, inr, ⊎-elim}
 use mathlib.Core.Bool.{Bool, true, false, _||_, false≢true}
 use mathlib.Core.List.{List, [], _∷_}
 use lib.Dec.{eqb}
@@ -28,6 +28,10 @@ member-cases x y ys e = go (eqb x y) refl e
 pub member-none : (x : ℕ) → member x [] ≡ true → ⊥
 unfolding member
 member-none x e = false≢true e
+
+-- the entry of a list of one
+pub member-one : (x y : ℕ) → member x (y ∷ []) ≡ true → x ≡ y
+member-one x y m = ⊎-elim (λ q. q) (λ q. absurd (member-none x q)) (member-cases x y [] m)
 
 -- an entry that passes the test is kept
 pub member-keep : (f : ℕ → Bool) (x : ℕ) (xs : List ℕ) → member x xs ≡ true → f x ≡ true → member x (keep f xs) ≡ true

@@ -1,12 +1,12 @@
 -- The verdict by cases: what holds where each is given. Assumes nothing.
 use Prim.Native.Nat.{ℕ, _≤_, _<_}
 use mathlib.Core.Path.{_≡_, refl, sym, ap, _∙_}
-use mathlib.Core.Logic.{_⊎_, inl, inr, _↔_}
+use mathlib.Core.Logic.{_↔_}
 use mathlib.Core.Bool.{Bool, true, false, not, _&&_, true≢false}
 use mathlib.Core.List.{List, [], _∷_}
 use native.Mathlib.Omega.{arith}
 use Rattle.lists.proofs.AscendLaws.{keep-lowest}
-use Rattle.lists.proofs.MemberLaws.{member-head, member-cases, member-none, keep-member, member-keep}
+use Rattle.lists.proofs.MemberLaws.{member-head, member-one, member-none, keep-member, member-keep}
 use Rattle.lists.proofs.TestLaws.{and-true, true-and, false-of, not-true}
 use Rattle.lists.specs.Lists.{pick, member}
 use Rattle.sheet.proofs.MarkLaws.{is-item, item-is, open-mark}
@@ -53,11 +53,7 @@ module _ (S : Sheet) (goals : List ℕ) (v : SomeWalkOn S goals) where
       })
 
   pub one-fits : (i : ℕ) → member i (items (S .graph) (S .source) (v .way)) ≡ true → fitsSheet S (i ∷ []) ≡ true
-  one-fits i m = met-fits (i ∷ []) (λ g q. go g (member-cases g i [] q))
-    where
-      go : (g : ℕ) → (g ≡ i) ⊎ (member g [] ≡ true) → member g (items (S .graph) (S .source) (v .way)) ≡ true
-      go g (inl p) = rw p m
-      go g (inr z) = absurd (member-none g z)
+  one-fits i m = met-fits (i ∷ []) (λ g q. rw (member-one g i q) m)
 
 -- each mandatory item is met by some walk
 abbrev pub EachMet : Sheet → Type 0

@@ -12,7 +12,7 @@ use lib.Dec.{eqb}
 use borrow.Author.Tests.{eqb-true, eqb-false}
 use Rattle.reason_list.proofs.ReasonLaws.{reasons-closed, reasons-valid, reasons-minimal}
 use Rattle.reason_list.specs.Reasons.{but}
-use Rattle.lists.proofs.MemberLaws.{member-head, member-cases, member-none}
+use Rattle.lists.proofs.MemberLaws.{member-head, member-none, member-one}
 use Rattle.lists.proofs.TestLaws.{false-back, and-true, not-true, true-or-false}
 use Rattle.lists.specs.Lists.{member}
 use Rattle.sheet.proofs.MarkLaws.{required-is, is-open, is-mandatory}
@@ -106,13 +106,9 @@ stands-meets T {goals} z (nodes below) d = fits-fewer T (demandedNodes T) goals 
     demanded g h (inr q) = required-demanded T g q
 stands-meets T z (alone i h) d = go (d i (member-head i []))
   where
-    only : member i (required T) ≡ true → (j : ℕ) → (j ≡ i) ⊎ (member j [] ≡ true) → member j (required T) ≡ true
-    only m j (inl q) = rw q m
-    only m j (inr q) = absurd (member-none j q)
-
     go : Demanded T i → fitsSheet T (i ∷ []) ≡ true
     go (inl m) = z .each i h m
-    go (inr m) = fits-fewer T (required T) (i ∷ []) (λ j q. only m j (member-cases j i [] q)) (z .together)
+    go (inr m) = fits-fewer T (required T) (i ∷ []) (λ j q. rw (member-one j i q) m) (z .together)
 
 -- Demand 3's step: a list that blocks some goals on a sheet has the pass refuse every later sheet's round where these goals are demanded.
 pub blocks-again : (S : Sheet) (list goals later : List ℕ) (T : Sheet) → Blocks S list goals → Goals (S .graph) goals → Later S list later T

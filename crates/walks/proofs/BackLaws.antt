@@ -1,4 +1,4 @@
--- Arcs with tail and head exchanged: walks go backwards, at the same length.
+-- Arcs with tail and head exchanged: walks go backwards, at the same length. Assumes nothing.
 use Prim.Native.Nat.{ℕ, _+_, _<_}
 use mathlib.Core.Path.{_≡_, refl, sym, _∙_, subst}
 use mathlib.Core.Bool.{Bool, true}

@@ -1,4 +1,4 @@
--- The goals matter as a set; and the least length by the goal whose first meeting is the last along the walk.
+-- The least length by the goal whose first meeting is the last along the walk. Assumes nothing.
 use Prim.Native.Nat.{ℕ, _+_, _-_, _<_}
 use mathlib.Core.Path.{_≡_, refl, sym, ap, _∙_, subst}
 use mathlib.Core.Logic.{_⊎_, inl, inr, ⊎-elim}
@@ -8,10 +8,10 @@ use native.Mathlib.Omega.{arith}
 use lib.ListN.{length}
 use lib.Dec.{eqb, leb}
 use borrow.Author.Tests.{leb-true, leb-false, eqb-true, eqb-false, lt-ltb, le-ltb}
-use Rattle.lists.proofs.MemberLaws.{member-head, member-tail, member-cases, member-none, member-keep, keep-member}
+use Rattle.lists.proofs.MemberLaws.{member-head, member-tail, member-cases, member-none, member-one, member-keep, keep-member}
 use Rattle.lists.proofs.TestLaws.{not-true, true-or-false}
 use Rattle.lists.specs.Lists.{member, without}
-use Rattle.walks.proofs.Join.{meets-none, meets-all, meets-at, len-append, first-item, first-arc, walk-append, items-left, items-right, walk-first, walk-last}
+use Rattle.walks.proofs.Join.{meets-none, meets-all, meets-at, len-append, first-item, first-arc, items-cases, items-later, walk-append, items-left, items-right, walk-first, walk-last}
 use Rattle.walks.proofs.LeastLaw.{fit-walk, walk-fit, Upto, upto-le, Attained, is-least, least-unique}
 use Rattle.walks.specs.Goals.{entryOf, exitOf, over, ownOf, lastly, anyLast}
 use Rattle.walks.specs.Graph.{Graph, tailOf, headOf, weightOf, arcItem, items, len, meets, fit, least}
@@ -140,7 +140,7 @@ module _ (G : Graph) (closed : ℕ → Bool) (b : ℕ) where
   -- the goals hs are met behind the first arc, and the others are its item and the first node
   part-later : (a l : ℕ) (gs hs w : List ℕ) → Step G closed a l → Includes gs hs
       → ((x : ℕ) → member x gs ≡ true → (x ≡ a) ⊎ ((x ≡ arcItem G l) ⊎ (member x hs ≡ true))) → Parted (headOf G l) hs (len G w) → Parted a gs (len G (l ∷ w))
-  unfolding len items
+  unfolding len
   part-later a l gs hs w S i all P =
       record {
         goal = P .goal;
@@ -155,17 +155,14 @@ module _ (G : Graph) (closed : ℕ → Bool) (b : ℕ) where
         met = λ x q n. go x n (all x q);
       }
     where
-      later : List ℕ
-      later = items G (headOf G l) (P .to)
-
-      go : (x : ℕ) → (x ≡ P .goal → ⊥) → (x ≡ a) ⊎ ((x ≡ arcItem G l) ⊎ (member x hs ≡ true)) → member x (a ∷ arcItem G l ∷ later) ≡ true
-      go x n (inl e) = rw e (member-head a (arcItem G l ∷ later))
-      go x n (inr (inl e)) = rw e (member-tail (arcItem G l) a (arcItem G l ∷ later) (member-head (arcItem G l) later))
-      go x n (inr (inr m)) = member-tail x a (arcItem G l ∷ later) (member-tail x (arcItem G l) later (P .met x m n))
+      go : (x : ℕ) → (x ≡ P .goal → ⊥) → (x ≡ a) ⊎ ((x ≡ arcItem G l) ⊎ (member x hs ≡ true)) → member x (items G a (l ∷ P .to)) ≡ true
+      go x n (inl e) = rw e (first-item G a (l ∷ P .to))
+      go x n (inr (inl e)) = rw e (first-arc G l a (P .to))
+      go x n (inr (inr m)) = items-later G x a l (P .to) (P .met x m n)
 
   part : (w : List ℕ) (a : ℕ) (gs : List ℕ) → Walk G closed a b w → meets G gs a w ≡ true → (gs ≡ [] → ⊥) → Parted a gs (len G w)
   unfolding items
-  part [] a gs W e n = part-node a gs [] W n (λ x q. ⊎-elim (λ p. p) (λ p. absurd (member-none x p)) (member-cases x a [] (meets-at G gs a [] x e q)))
+  part [] a gs W e n = part-node a gs [] W n (λ x q. member-one x a (meets-at G gs a [] x e q))
   part (l ∷ w) a gs W e n = go (empty hs) (part w (headOf G l) hs (W .1) (meets-all G hs (headOf G l) w behind))
     where
       i : ℕ
@@ -186,8 +183,7 @@ module _ (G : Graph) (closed : ℕ → Bool) (b : ℕ) where
       behind : (x : ℕ) → member x hs ≡ true → member x (items G (headOf G l) w) ≡ true
       behind x q =
           let f = fewer x q in
-          let later = items G (headOf G l) w in
-          ⊎-elim (λ p. absurd (f .1 p)) (λ m. ⊎-elim (λ p. absurd (f .2 p)) (λ p. p) (member-cases x i later m)) (member-cases x a (i ∷ later) (meets-at G gs a (l ∷ w) x e (f .0)))
+          ⊎-elim (λ p. absurd (f .1 p)) (⊎-elim (λ p. absurd (f .2 p)) (λ p. p)) (items-cases G x a l w (meets-at G gs a (l ∷ w) x e (f .0)))
 
       here : hs ≡ [] → (member i gs ≡ true) ⊎ (member i gs ≡ false) → Parted a gs (len G (l ∷ w))
       here q (inl m) = part-arc a l gs w (W .0) (W .1) m (λ x p. ⊎-elim inl (⊎-elim inr (λ r. absurd (member-none x (rw q at r)))) (kinds x p))

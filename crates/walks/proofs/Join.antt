@@ -1,11 +1,11 @@
 -- Walks joined, and what they meet. Assumes nothing.
 use Prim.Native.Nat.{ℕ, _+_, _<_}
 use mathlib.Core.Path.{_≡_, refl, sym, subst}
-use mathlib.Core.Logic.{_⊎_, inl, inr}
+use mathlib.Core.Logic.{_⊎_, inl, inr, ⊎-elim}
 use mathlib.Core.Bool.{not, _&&_, Bool, true, false}
 use mathlib.Core.List.{List, [], _∷_, _++_}
 use native.Mathlib.Omega.{arith}
-use Rattle.lists.proofs.MemberLaws.{member-head, member-tail, member-none, every-at, every-all, member-cases}
+use Rattle.lists.proofs.MemberLaws.{member-head, member-tail, every-at, every-all, member-cases, member-one}
 use Rattle.lists.proofs.TestLaws.{and-true, not-true}
 use Rattle.lists.specs.Lists.{member, every}
 use Rattle.walks.specs.Graph.{Graph, headOf, arcItem, items, len, meets, tailOf, chain, clear, fit}
@@ -39,6 +39,17 @@ module _ (G : Graph) where
   first-arc l a w =
       member-tail (arcItem G l) a (arcItem G l ∷ items G (headOf G l) w) (member-head (arcItem G l) (items G (headOf G l) w))
 
+  -- what a walk with a first arc meets: its first node, the arc, and what it meets behind the arc
+  pub items-cases : (x a l : ℕ) (w : List ℕ) → member x (items G a (l ∷ w)) ≡ true
+      → (x ≡ a) ⊎ ((x ≡ arcItem G l) ⊎ (member x (items G (headOf G l) w) ≡ true))
+  unfolding items
+  items-cases x a l w m =
+      ⊎-elim inl (λ q. inr (member-cases x (arcItem G l) (items G (headOf G l) w) q)) (member-cases x a (arcItem G l ∷ items G (headOf G l) w) m)
+
+  pub items-later : (x a l : ℕ) (w : List ℕ) → member x (items G (headOf G l) w) ≡ true → member x (items G a (l ∷ w)) ≡ true
+  unfolding items
+  items-later x a l w m = member-tail x a (arcItem G l ∷ items G (headOf G l) w) (member-tail x (arcItem G l) (items G (headOf G l) w) m)
+
 module _ (G : Graph) (closed : ℕ → Bool) where
   pub walk-append : (a p b : ℕ) (u v : List ℕ) → Walk G closed a p u → Walk G closed p b v → Walk G closed a b (u ++ v)
   walk-append a p b [] v P Q = subst (λ (x : ℕ). Walk G closed x b v) (sym (P .there)) Q
@@ -47,32 +58,18 @@ module _ (G : Graph) (closed : ℕ → Bool) where
   -- the items of the first part are met, and those of the second
   pub items-left : (g a p : ℕ) (u v : List ℕ) → Walk G closed a p u → member g (items G a u) ≡ true → member g (items G a (u ++ v)) ≡ true
   unfolding items
-  items-left g a p [] v U e = go (member-cases g a [] e)
+  items-left g a p [] v U e = rw (member-one g a e) (first-item G a v)
+  items-left g a p (l ∷ u) v U e = go (items-cases G g a l u e) (items-left g (headOf G l) p u v (U .1))
     where
-      go : (g ≡ a) ⊎ (member g [] ≡ true) → member g (items G a v) ≡ true
-      go (inl q) = rw q (first-item G a v)
-      go (inr q) = absurd (member-none g q)
-  items-left g a p (l ∷ u) v U e = go (member-cases g a (arcItem G l ∷ items G (headOf G l) u) e) (items-left g (headOf G l) p u v (U .1))
-    where
-      rest : List ℕ
-      rest = items G (headOf G l) (u ++ v)
-
-      go₁ : (g ≡ arcItem G l) ⊎ (member g (items G (headOf G l) u) ≡ true) → (member g (items G (headOf G l) u) ≡ true → member g rest ≡ true)
-          → member g (arcItem G l ∷ rest) ≡ true
-      go₁ (inl q) ih = rw q (member-head (arcItem G l) rest)
-      go₁ (inr q) ih = member-tail g (arcItem G l) rest (ih q)
-
-      go : (g ≡ a) ⊎ (member g (arcItem G l ∷ items G (headOf G l) u) ≡ true) → (member g (items G (headOf G l) u) ≡ true → member g rest ≡ true)
-          → member g (a ∷ arcItem G l ∷ rest) ≡ true
-      go (inl q) ih = rw q (member-head a (arcItem G l ∷ rest))
-      go (inr q) ih = member-tail g a (arcItem G l ∷ rest) (go₁ (member-cases g (arcItem G l) (items G (headOf G l) u) q) ih)
+      go : (g ≡ a) ⊎ ((g ≡ arcItem G l) ⊎ (member g (items G (headOf G l) u) ≡ true))
+          → (member g (items G (headOf G l) u) ≡ true → member g (items G (headOf G l) (u ++ v)) ≡ true) → member g (items G a (l ∷ (u ++ v))) ≡ true
+      go (inl q) ih = rw q (first-item G a (l ∷ (u ++ v)))
+      go (inr (inl q)) ih = rw q (first-arc G l a (u ++ v))
+      go (inr (inr q)) ih = items-later G g a l (u ++ v) (ih q)
 
   pub items-right : (g a p : ℕ) (u v : List ℕ) → Walk G closed a p u → member g (items G p v) ≡ true → member g (items G a (u ++ v)) ≡ true
-  unfolding items
   items-right g a p [] v U e = subst (λ (x : ℕ). member g (items G x v) ≡ true) (sym (U .there)) e
-  items-right g a p (l ∷ u) v U e =
-      member-tail g a (arcItem G l ∷ items G (headOf G l) (u ++ v))
-      (member-tail g (arcItem G l) (items G (headOf G l) (u ++ v)) (items-right g (headOf G l) p u v (U .1) e))
+  items-right g a p (l ∷ u) v U e = items-later G g a l (u ++ v) (items-right g (headOf G l) p u v (U .1) e)
 
   -- the ends of a walk are open nodes
   pub walk-first : (a b : ℕ) (w : List ℕ) → Walk G closed a b w → (a < G .nodes) × (closed a ≡ false)
@@ -87,41 +84,26 @@ module _ (G : Graph) (closed : ℕ → Bool) where
 module _ (G : Graph) (closed : ℕ → Bool) (b : ℕ) where
   pub ends-met : (l a : ℕ) (w : List ℕ) → Walk G closed a b w → member (arcItem G l) (items G a w) ≡ true
       → (member (tailOf G l) (items G a w) ≡ true) × (member (headOf G l) (items G a w) ≡ true)
-  unfolding items arcItem member
-  ends-met l a [] W e = go (member-cases (G .nodes + l) a [] e)
+  unfolding items arcItem
+  ends-met l a [] W e = absurd (omega (arith, W .node, member-one (G .nodes + l) a e))
+  ends-met l a (l′ ∷ w) W e = go (items-cases G (arcItem G l) a l′ w e) (ends-met l (headOf G l′) w (W .1))
     where
-      go : (G .nodes + l ≡ a) ⊎ (member (G .nodes + l) [] ≡ true) → (member (tailOf G l) (a ∷ []) ≡ true) × (member (headOf G l) (a ∷ []) ≡ true)
-      go (inl q) = absurd (omega (arith, W .node))
-      go (inr q) = absurd (member-none (G .nodes + l) q)
-  ends-met l a (l′ ∷ w) W e = go (member-cases (G .nodes + l) a ((G .nodes + l′) ∷ items G (headOf G l′) w) e) (ends-met l (headOf G l′) w (W .1))
-    where
-      rest : List ℕ
-      rest = items G (headOf G l′) w
+      Met : ℕ → List ℕ → Type 0
+      Met a w = (member (tailOf G l) (items G a w) ≡ true) × (member (headOf G l) (items G a w) ≡ true)
 
-      Met : List ℕ → Type 0
-      Met its = (member (tailOf G l) its ≡ true) × (member (headOf G l) its ≡ true)
-
-      go₁ : (G .nodes + l ≡ G .nodes + l′) ⊎ (member (G .nodes + l) rest ≡ true) → (member (G .nodes + l) rest ≡ true → Met rest) → Met (a ∷ (G .nodes + l′) ∷ rest)
-      go₁ (inl q) ih =
-          let l≡ : l ≡ l′ = omega arith in (
-            rw (l≡, W .0 .leaves) (member-head a ((G .nodes + l′) ∷ rest)),
-            rw l≡ (member-tail (headOf G l′) a ((G .nodes + l′) ∷ rest) (member-tail (headOf G l′) (G .nodes + l′) rest (first-item G (headOf G l′) w))),
-          )
-      go₁ (inr q) ih = (
-        member-tail (tailOf G l) a ((G .nodes + l′) ∷ rest) (member-tail (tailOf G l) (G .nodes + l′) rest (ih q .0)),
-        member-tail (headOf G l) a ((G .nodes + l′) ∷ rest) (member-tail (headOf G l) (G .nodes + l′) rest (ih q .1)),
-      )
-
-      go : (G .nodes + l ≡ a) ⊎ (member (G .nodes + l) ((G .nodes + l′) ∷ rest) ≡ true) → (member (G .nodes + l) rest ≡ true → Met rest)
-          → Met (a ∷ (G .nodes + l′) ∷ rest)
+      go : (G .nodes + l ≡ a) ⊎ ((G .nodes + l ≡ G .nodes + l′) ⊎ (member (G .nodes + l) (items G (headOf G l′) w) ≡ true))
+          → (member (G .nodes + l) (items G (headOf G l′) w) ≡ true → Met (headOf G l′) w) → Met a (l′ ∷ w)
       go (inl q) ih = absurd (omega (arith, W .0 .node))
-      go (inr q) ih = go₁ (member-cases (G .nodes + l) (G .nodes + l′) rest q) ih
+      go (inr (inl q)) ih =
+          let l≡ : l ≡ l′ = omega arith in
+          (rw (l≡, W .0 .leaves) (first-item G a (l′ ∷ w)), rw l≡ (items-later G (headOf G l′) a l′ w (first-item G (headOf G l′) w)))
+      go (inr (inr q)) ih = let m = ih q in (items-later G (tailOf G l) a l′ w (m .0), items-later G (headOf G l) a l′ w (m .1))
 
 -- a walk touches its last node
 pub last-item : (G : Graph) (closed : ℕ → Bool) (a b : ℕ) (w : List ℕ) → Walk G closed a b w → member b (items G a w) ≡ true
 unfolding items
 last-item G closed a b [] W = rw (← (W .there)) (member-head a [])
-last-item G closed a b (l ∷ w) W = member-tail b a (arcItem G l ∷ items G (headOf G l) w) (member-tail b (arcItem G l) (items G (headOf G l) w) (last-item G closed (headOf G l) b w (W .1)))
+last-item G closed a b (l ∷ w) W = items-later G b a l w (last-item G closed (headOf G l) b w (W .1))
 
 -- a walk that fits meets nothing closed
 pub fit-clear : (G : Graph) (closed : ℕ → Bool) (goals : List ℕ) (a b : ℕ) (w : List ℕ) (i : ℕ) → fit G closed goals a b w ≡ true

@@ -1,4 +1,4 @@
--- The law of `least`: it is the least length over the walks of any number of arcs.
+-- The law of `least`: it is the least length over the walks of any number of arcs. Assumes nothing.
 use Prim.Native.Nat.{ℕ, zero, suc, _+_, _*_, _≤_, _<_, min}
 use mathlib.Core.Path.{_≡_, refl, sym, ap, _∙_, subst, fun-ext}
 use mathlib.Core.Logic.{_⊎_, inl, inr}

@@ -2,14 +2,13 @@
 -- Assumes nothing.
 use Prim.Native.Nat.{ℕ, _<_}
 use mathlib.Core.Path.{_≡_, refl, ap, _∙_}
-use mathlib.Core.Logic.{_⊎_, inl, inr}
-use mathlib.Core.Bool.{Bool, true, false}
+use mathlib.Core.Bool.{Bool, false}
 use mathlib.Core.List.{[], _∷_}
 use native.Mathlib.Omega.{arith}
 use lib.ListN.{length}
 use borrow.Author.Tests.{eq-eqb}
-use Rattle.lists.proofs.MemberLaws.{member-cases, member-none}
-use Rattle.lists.specs.Lists.{member, without, keep, add}
+use Rattle.lists.proofs.MemberLaws.{member-one}
+use Rattle.lists.specs.Lists.{without, keep, add}
 use Rattle.walks.proofs.GoalLaws.{Item, node, arc, last-goal, entry-node, exit-node, own-node, entry-arc, exit-arc, own-arc}
 use Rattle.walks.specs.Goals.{entryOf, exitOf, ownOf, lastly, anyLast}
 use Rattle.walks.specs.Graph.{Graph, tailOf, headOf, weightOf, arcItem, least}
@@ -35,11 +34,7 @@ module _ (G : Graph) (closed : ℕ → Bool) where
       → least G closed (g ∷ []) a b ≡ plus (plus (least G closed [] a (entryOf G g)) (ownOf G closed g)) (least G closed [] (exitOf G g) b)
   unfolding anyLast lastly
   through-one g a b i =
-      last-goal G closed (g ∷ []) a b (λ h m. only h (member-cases h g [] m)) (λ e. let z : _≡_ {A = ℕ} 0 1 = cc in omega arith) ∙ rw (without-self g) (lesser-none _)
-    where
-      only : (h : ℕ) → (h ≡ g) ⊎ (member h [] ≡ true) → Item G h
-      only h (inl q) = rw q i
-      only h (inr m) = absurd (member-none h m)
+      last-goal G closed (g ∷ []) a b (λ h m. rw (member-one h g m) i) (λ e. let z : _≡_ {A = ℕ} 0 1 = cc in omega arith) ∙ rw (without-self g) (lesser-none _)
 
   -- Proposition 1
   pub through-node : (p a b : ℕ) → p < G .nodes → least G closed (p ∷ []) a b ≡ plus (least G closed [] a p) (least G closed [] p b)
