@@ -1,19 +1,19 @@
 -- The greedy list of reasons: its items are closed and ascend, no walk clear of them meets the goals within the limit, and with any one of them
--- open some walk does. By induction over the items: `mixed` is what is closed once those from i on are replaced by what is listed of them, and each
--- turn (`Turn`) only opens items, so that what was shown of fewer closures carries over. Assumes nothing.
+-- open some walk does. By induction over the items: `mixed` is what is closed once those from i on are replaced by what is listed of them, and no
+-- turn (`Turn`) changes it. Assumes nothing.
 use Prim.Native.Nat.{ℕ, zero, suc, _+_, _≤_, _<_}
 use mathlib.Core.Path.{_≡_, refl, sym, ap, _∙_, fun-ext}
-use mathlib.Core.Logic.{_⊎_, inl, inr, _≢_}
+use mathlib.Core.Logic.{_⊎_, inl, inr, ⊎-elim, _≢_}
 use mathlib.Core.Bool.{Bool, true, false, not, _&&_, _||_, true≢false}
 use mathlib.Core.List.{List, [], _∷_}
 use native.Mathlib.Omega.{arith}
 use native.Mathlib.Decide.{ℕ-discrete}
 use lib.ListN.{set}
 use lib.Dec.{eqb, ltb}
-use borrow.Author.Tests.{eqb-true, eqb-false, eq-eqb, ne-eqb, ltb-true, lt-ltb, le-ltb}
+use borrow.Author.Tests.{eq-eqb, ne-eqb, ltb-true, ltb-false, lt-ltb, le-ltb}
 use Rattle.lists.specs.Lists.{member, ascends}
-use Rattle.lists.proofs.TestLaws.{and-true, true-and, not-true, or-true, true-or, false-back}
-use Rattle.lists.proofs.MemberLaws.{member-head, member-tail, member-cases, member-none}
+use Rattle.lists.proofs.TestLaws.{and-true, true-and, not-true, or-true, false-back}
+use Rattle.lists.proofs.MemberLaws.{member-head, member-cases, member-none}
 use Rattle.walks.specs.Graph.{Graph, itemCount, closedIn, fits}
 use Rattle.walks.specs.Walk.{SomeWalk, NoWalk}
 use Rattle.walks.proofs.FitsLaws.{Narrower, fits-some, fits-none, fits-mono, fits-anti}
@@ -25,41 +25,47 @@ unfolding but
 but-cases c r j e =
     let s = and-true (c j) (not (eqb j r)) e in (s .0, λ p. true≢false (sym (eq-eqb j r p) ∙ not-true (eqb j r) (s .1)))
 
-but-true : (c : ℕ → Bool) (r j : ℕ) → c j ≡ true → (j ≡ r → ⊥) → but c r j ≡ true
-unfolding but
-but-true c r j e n = rw (e, ne-eqb j r n)
-
 -- what is closed once the items from i on are replaced by the list R
 unfoldable mixed : ℕ → List ℕ → List ℕ → ℕ → Bool
 mixed i marks R j = (ltb j i && closedIn marks j) || member j R
-
--- the two ways in which it is
-abbrev Mixed : ℕ → List ℕ → List ℕ → ℕ → Type 0
-Mixed i marks R j = ((j < i) × (closedIn marks j ≡ true)) ⊎ (member j R ≡ true)
-
-mixed-true : (i : ℕ) (marks R : List ℕ) (j : ℕ) → Mixed i marks R j → mixed i marks R j ≡ true
-unfolding mixed
-mixed-true i marks R j (inl s) = rw (lt-ltb j i (s .0), s .1)
-mixed-true i marks R j (inr m) = true-or (ltb j i && closedIn marks j) (member j R) m
-
-mixed-cases : (i : ℕ) (marks R : List ℕ) (j : ℕ) → mixed i marks R j ≡ true → Mixed i marks R j
-unfolding mixed
-mixed-cases i marks R j e = go (or-true (ltb j i && closedIn marks j) (member j R) e)
-  where
-    go : ((ltb j i && closedIn marks j) ≡ true) ⊎ (member j R ≡ true) → Mixed i marks R j
-    go (inl q) = let s = and-true (ltb j i) (closedIn marks j) q in inl (ltb-true j i (s .0), s .1)
-    go (inr m) = inr m
 
 mixed-zero : (marks R : List ℕ) → mixed 0 marks R ≡ (λ j. member j R)
 unfolding mixed
 mixed-zero marks R = fun-ext (λ j. rw (le-ltb j 0 (omega arith)))
 
-below-more : (i j : ℕ) → j < suc i → (j ≡ i) ⊎ (j < i)
-below-more i j h = go (eqb j i) refl
+-- where the list has closed items only, each is one that was closed
+mixed-closed : (i : ℕ) (marks R : List ℕ) → ((j : ℕ) → member j R ≡ true → closedIn marks j ≡ true) → (j : ℕ) → mixed i marks R j ≡ true
+    → closedIn marks j ≡ true
+unfolding mixed
+mixed-closed i marks R h j e = ⊎-elim (λ q. and-true (ltb j i) (closedIn marks j) q .1) (h j) (or-true (ltb j i && closedIn marks j) (member j R) e)
+
+beside : (i j : ℕ) → j ≢ i → ltb j i ≡ ltb j (suc i)
+beside i j n = go (ltb j i) refl
   where
-    go : (t : Bool) → eqb j i ≡ t → (j ≡ i) ⊎ (j < i)
-    go true q = inl (eqb-true j i q)
-    go false q = let n : j ≢ i = eqb-false j i q in inr (omega arith)
+    go : (t : Bool) → ltb j i ≡ t → t ≡ ltb j (suc i)
+    go true q = sym (lt-ltb j (suc i) (omega (arith, ltb-true j i q)))
+    go false q = sym (le-ltb j (suc i) (omega (arith, ltb-false j i q)))
+
+-- Where item i is open, or is opened, or goes from the marks to the list, the same is closed.
+module _ (i : ℕ) (marks R : List ℕ) where
+  mixed-at : (marks′ R′ : List ℕ) → member i R ≡ (closedIn marks′ i || member i R′)
+      → ((j : ℕ) → j ≢ i → (closedIn marks j ≡ closedIn marks′ j) × (member j R ≡ member j R′)) → mixed i marks R ≡ mixed (suc i) marks′ R′
+  unfolding mixed
+  mixed-at marks′ R′ here others = fun-ext (λ j. go j (ℕ-discrete j i))
+    where
+      go : (j : ℕ) → Dec (j ≡ i) → mixed i marks R j ≡ mixed (suc i) marks′ R′ j
+      go j (yes q) = rw (q, le-ltb i i (omega arith), lt-ltb i (suc i) (omega arith)) here
+      go j (no q) = rw (beside i j q, others j q .0, others j q .1)
+
+  mixed-passed : closedIn marks i ≡ false → mixed i marks R ≡ mixed (suc i) marks R
+  mixed-passed p = mixed-at marks R (rw p) (λ j n. (refl, refl))
+
+  mixed-opened : mixed i marks R ≡ mixed (suc i) (set marks i 0) R
+  mixed-opened = mixed-at (set marks i 0) R (rw (open-same marks i)) (λ j n. (sym (open-other marks i j n), refl))
+
+mixed-listed : (i : ℕ) (marks R : List ℕ) → closedIn marks i ≡ true → mixed i marks (i ∷ R) ≡ mixed (suc i) marks R
+unfolding member
+mixed-listed i marks R p = mixed-at i marks (i ∷ R) marks R (rw (p, eq-eqb i i refl)) (λ j n. (refl, rw (ne-eqb j i n)))
 
 -- a number below each entry goes before them
 ascends-more : (x : ℕ) (xs : List ℕ) → ascends xs ≡ true → ((j : ℕ) → member j xs ≡ true → x < j) → ascends (x ∷ xs) ≡ true
@@ -134,126 +140,61 @@ module _ (G : Graph) (s t k : ℕ) (goals : List ℕ) where
   abbrev Valid : ℕ → List ℕ → List ℕ → Type 0
   Valid i marks R = fits G s t k (closedIn marks) goals ≡ false → fits G s t k (mixed i marks R) goals ≡ false
 
-  valid-step : (i i′ : ℕ) (marks marks′ R R′ : List ℕ) → ((j : ℕ) → Mixed i′ marks′ R′ j → Mixed i marks R j)
-      → fits G s t k (mixed i′ marks′ R′) goals ≡ false → fits G s t k (mixed i marks R) goals ≡ false
-  valid-step i i′ marks marks′ R R′ h e =
-      fits-more (mixed i marks R) (mixed i′ marks′ R′) (λ j b m. mixed-true i marks R j (h j (mixed-cases i′ marks′ R′ j m))) e
-
   valid-turn : (c i : ℕ) (marks : List ℕ) {R : List ℕ} → Turn c i marks R
       → ((marks′ : List ℕ) → Valid (suc i) marks′ (greedy G s t k goals c (suc i) marks′)) → Valid i marks R
-  valid-turn c i marks (passed p) ih e =
-      let R = greedy G s t k goals c (suc i) marks in valid-step i (suc i) marks marks R R go (ih marks e)
-    where
-      go : (j : ℕ) → Mixed (suc i) marks (greedy G s t k goals c (suc i) marks) j → Mixed i marks (greedy G s t k goals c (suc i) marks) j
-      go j (inl a) = step (below-more i j (a .0))
-        where
-          step : (j ≡ i) ⊎ (j < i) → Mixed i marks (greedy G s t k goals c (suc i) marks) j
-          step (inl e) = absurd (true≢false (sym (a .1) ∙ ap (closedIn marks) e ∙ p))
-          step (inr h) = inl (h, a .1)
-      go j (inr m) = inr m
-  valid-turn c i marks (listed p q) ih e =
-      let R = greedy G s t k goals c (suc i) marks in valid-step i (suc i) marks marks (i ∷ R) R go (ih marks e)
-    where
-      go : (j : ℕ) → Mixed (suc i) marks (greedy G s t k goals c (suc i) marks) j
-          → Mixed i marks (i ∷ greedy G s t k goals c (suc i) marks) j
-      go j (inl a) = step (below-more i j (a .0))
-        where
-          step : (j ≡ i) ⊎ (j < i) → Mixed i marks (i ∷ greedy G s t k goals c (suc i) marks) j
-          step (inl e) = inr (rw e (member-head i (greedy G s t k goals c (suc i) marks)))
-          step (inr h) = inl (h, a .1)
-      go j (inr m) = inr (member-tail j i (greedy G s t k goals c (suc i) marks) m)
-  valid-turn c i marks (opened p q) ih e =
-      let R = greedy G s t k goals c (suc i) (set marks i 0) in valid-step i (suc i) marks (set marks i 0) R R go (ih (set marks i 0) q)
-    where
-      go : (j : ℕ) → Mixed (suc i) (set marks i 0) (greedy G s t k goals c (suc i) (set marks i 0)) j
-          → Mixed i marks (greedy G s t k goals c (suc i) (set marks i 0)) j
-      go j (inl a) =
-          let o = open-closed marks i j (a .1) in
-          let n : j ≢ i = o .1 in
-          inl (omega (arith, a .0), o .0)
-      go j (inr m) = inr m
+  valid-turn c i marks (passed p) ih e = rw (mixed-passed i marks (greedy G s t k goals c (suc i) marks) p) (ih marks e)
+  valid-turn c i marks (listed p q) ih e = rw (mixed-listed i marks (greedy G s t k goals c (suc i) marks) p) (ih marks e)
+  valid-turn c i marks (opened p q) ih e = rw (mixed-opened i marks (greedy G s t k goals c (suc i) (set marks i 0))) (ih (set marks i 0) q)
 
   valid : (c i : ℕ) (marks : List ℕ) → i + c ≡ itemCount G → Valid i marks (greedy G s t k goals c i marks)
-  unfolding greedy
-  valid zero i marks n e = fits-more (mixed i marks []) (closedIn marks) (λ j b a. mixed-true i marks [] j (inl (omega arith, a))) e
+  unfolding greedy mixed
+  valid zero i marks n e = fits-more (mixed i marks []) (closedIn marks) (λ j b a. rw (lt-ltb j i (omega arith), a)) e
   valid (suc c) i marks n e = valid-turn c i marks (turn c i marks) (λ marks′. valid c (suc i) marks′ (omega arith)) e
 
   -- with any one of the list open, a walk fits
   abbrev Minimal : ℕ → List ℕ → List ℕ → Type 0
   Minimal i marks R = (r : ℕ) → member r R ≡ true → fits G s t k (but (mixed i marks R) r) goals ≡ true
 
-  minimal-step : (i i′ : ℕ) (marks marks′ R R′ : List ℕ) (r : ℕ) → ((j : ℕ) → Mixed i′ marks′ R′ j → Mixed i marks R j)
-      → fits G s t k (but (mixed i marks R) r) goals ≡ true → fits G s t k (but (mixed i′ marks′ R′) r) goals ≡ true
-  minimal-step i i′ marks marks′ R R′ r h e =
-      fits-less (but (mixed i marks R) r) (but (mixed i′ marks′ R′) r)
-      (λ j b m.
-      let a = but-cases (mixed i′ marks′ R′) r j m in
-      but-true (mixed i marks R) r j (mixed-true i marks R j (h j (mixed-cases i′ marks′ R′ j (a .0)))) (a .1))
-      e
-
   minimal-turn : (c i : ℕ) (marks : List ℕ) {R : List ℕ} → Turn c i marks R
       → ((marks′ : List ℕ) → Minimal (suc i) marks′ (greedy G s t k goals c (suc i) marks′)) → Minimal i marks R
-  minimal-turn c i marks (passed p) ih r m =
-      let R = greedy G s t k goals c (suc i) marks in minimal-step (suc i) i marks marks R R r go (ih marks r m)
-    where
-      go : (j : ℕ) → Mixed i marks (greedy G s t k goals c (suc i) marks) j → Mixed (suc i) marks (greedy G s t k goals c (suc i) marks) j
-      go j (inl a) = inl (omega (arith, a .0), a .1)
-      go j (inr m′) = inr m′
-  minimal-turn c i marks (listed p q) ih r m = pick (member-cases r i (greedy G s t k goals c (suc i) marks) m)
+  minimal-turn c i marks (passed p) ih r m = rw (mixed-passed i marks (greedy G s t k goals c (suc i) marks) p) (ih marks r m)
+  minimal-turn c i marks (listed p q) ih r m = rw (mixed-listed i marks R p) (go (member-cases r i R m))
     where
       R : List ℕ
       R = greedy G s t k goals c (suc i) marks
 
-      first : (j : ℕ) → Mixed i marks (i ∷ R) j → (j ≡ i → ⊥) → closedIn (set marks i 0) j ≡ true
-      first j (inl a) n = open-other marks i j n ∙ a .1
-      first j (inr m′) n = go (member-cases j i R m′)
-        where
-          go : (j ≡ i) ⊎ (member j R ≡ true) → closedIn (set marks i 0) j ≡ true
-          go (inl e) = absurd (n e)
-          go (inr m″) = open-other marks i j n ∙ among c (suc i) marks j m″ .2
+      -- with i open, no more is closed than with i opened in the marks
+      fewer : Within (but (mixed (suc i) marks R) i) (closedIn (set marks i 0))
+      fewer j b x =
+          let a = but-cases (mixed (suc i) marks R) i j x in
+          open-other marks i j (a .1) ∙ mixed-closed (suc i) marks R (λ j m. among c (suc i) marks j m .2) j (a .0)
 
-      later : (j : ℕ) → Mixed i marks (i ∷ R) j → Mixed (suc i) marks R j
-      later j (inl a) = inl (omega (arith, a .0), a .1)
-      later j (inr m′) = go (member-cases j i R m′)
-        where
-          go : (j ≡ i) ⊎ (member j R ≡ true) → Mixed (suc i) marks R j
-          go (inl e) = inl (omega arith, rw e p)
-          go (inr m″) = inr m″
-
-      pick : (r ≡ i) ⊎ (member r R ≡ true) → fits G s t k (but (mixed i marks (i ∷ R)) r) goals ≡ true
-      pick (inl e) =
-          rw e (fits-less (closedIn (set marks i 0)) (but (mixed i marks (i ∷ R)) i)
-          (λ j b x. let a = but-cases (mixed i marks (i ∷ R)) i j x in first j (mixed-cases i marks (i ∷ R) j (a .0)) (a .1)) q)
-      pick (inr m′) = minimal-step (suc i) i marks marks R (i ∷ R) r later (ih marks r m′)
-  minimal-turn c i marks (opened p q) ih r m =
-      let R = greedy G s t k goals c (suc i) (set marks i 0) in minimal-step (suc i) i (set marks i 0) marks R R r go (ih (set marks i 0) r m)
-    where
-      go : (j : ℕ) → Mixed i marks (greedy G s t k goals c (suc i) (set marks i 0)) j
-          → Mixed (suc i) (set marks i 0) (greedy G s t k goals c (suc i) (set marks i 0)) j
-      go j (inl a) = inl (omega (arith, a .0), open-other marks i j (λ e. absurd (omega (arith, e, a .0))) ∙ a .1)
-      go j (inr m′) = inr m′
+      go : (r ≡ i) ⊎ (member r R ≡ true) → fits G s t k (but (mixed (suc i) marks R) r) goals ≡ true
+      go (inl e) = rw e (fits-less (closedIn (set marks i 0)) (but (mixed (suc i) marks R) i) fewer q)
+      go (inr m) = ih marks r m
+  minimal-turn c i marks (opened p q) ih r m = rw (mixed-opened i marks (greedy G s t k goals c (suc i) (set marks i 0))) (ih (set marks i 0) r m)
 
   minimal : (c i : ℕ) (marks : List ℕ) → Minimal i marks (greedy G s t k goals c i marks)
   unfolding greedy
   minimal zero i marks r m = absurd (member-none r m)
   minimal (suc c) i marks r m = minimal-turn c i marks (turn c i marks) (λ marks′. minimal c (suc i) marks′) r m
 
+-- a turn's list by whether the item is closed, whether a walk fits with it opened, and the list of the rest in either case
+turned : ℕ → Bool → Bool → List ℕ → List ℕ → List ℕ
+turned i closed fitting kept other =
+    elim closed [
+      | false ↦ kept
+      | true ↦ elim fitting [
+        | true ↦ i ∷ kept
+        | false ↦ other
+      ]
+    ]
+
+turned-alike : (i : ℕ) {b b′ f f′ : Bool} {R R′ Q Q′ : List ℕ} → b ≡ b′ → f ≡ f′ → R ≡ R′ → Q ≡ Q′ → turned i b f R Q ≡ turned i b′ f′ R′ Q′
+turned-alike i p q r o = cc
+
 -- marks that close the same items give the same list
 module _ (G : Graph) (s t k : ℕ) (goals : List ℕ) where
-  step-passed : (c i : ℕ) (marks : List ℕ) → closedIn marks i ≡ false → greedy G s t k goals (suc c) i marks ≡ greedy G s t k goals c (suc i) marks
-  unfolding greedy
-  step-passed c i marks p = rw (p, greedy)
-
-  step-listed : (c i : ℕ) (marks : List ℕ) → closedIn marks i ≡ true → fits G s t k (closedIn (set marks i 0)) goals ≡ true
-      → greedy G s t k goals (suc c) i marks ≡ i ∷ greedy G s t k goals c (suc i) marks
-  unfolding greedy
-  step-listed c i marks p q = rw (p, q, greedy)
-
-  step-opened : (c i : ℕ) (marks : List ℕ) → closedIn marks i ≡ true → fits G s t k (closedIn (set marks i 0)) goals ≡ false
-      → greedy G s t k goals (suc c) i marks ≡ greedy G s t k goals c (suc i) (set marks i 0)
-  unfolding greedy
-  step-opened c i marks p q = rw (p, q, greedy)
-
   opened-alike : (marks marks′ : List ℕ) (i : ℕ) → ((j : ℕ) → closedIn marks j ≡ closedIn marks′ j)
       → (j : ℕ) → closedIn (set marks i 0) j ≡ closedIn (set marks′ i 0) j
   opened-alike marks marks′ i e j = go (ℕ-discrete j i)
@@ -264,22 +205,12 @@ module _ (G : Graph) (s t k : ℕ) (goals : List ℕ) where
 
   greedy-alike : (c i : ℕ) (marks marks′ : List ℕ) → ((j : ℕ) → closedIn marks j ≡ closedIn marks′ j)
       → greedy G s t k goals c i marks ≡ greedy G s t k goals c i marks′
-  unfolding greedy
+  unfolding greedy turned
   greedy-alike zero i marks marks′ e = refl
-  greedy-alike (suc c) i marks marks′ e = go (closedIn marks i) refl (fits G s t k (closedIn (set marks i 0)) goals) refl (greedy-alike c (suc i))
-    where
-      same : fits G s t k (closedIn (set marks i 0)) goals ≡ fits G s t k (closedIn (set marks′ i 0)) goals
-      same = ap (λ (f : ℕ → Bool). fits G s t k f goals) (fun-ext (opened-alike marks marks′ i e))
-
-      go : (b : Bool) → closedIn marks i ≡ b → (f : Bool) → fits G s t k (closedIn (set marks i 0)) goals ≡ f
-          → ((ms ms′ : List ℕ) → ((j : ℕ) → closedIn ms j ≡ closedIn ms′ j) → greedy G s t k goals c (suc i) ms ≡ greedy G s t k goals c (suc i) ms′)
-          → greedy G s t k goals (suc c) i marks ≡ greedy G s t k goals (suc c) i marks′
-      go false p f q ih = step-passed c i marks p ∙ ih marks marks′ e ∙ sym (step-passed c i marks′ (sym (e i) ∙ p))
-      go true p true q ih =
-          step-listed c i marks p q ∙ ap (i ∷_) (ih marks marks′ e) ∙ sym (step-listed c i marks′ (sym (e i) ∙ p) (sym same ∙ q))
-      go true p false q ih =
-          step-opened c i marks p q ∙ ih (set marks i 0) (set marks′ i 0) (opened-alike marks marks′ i e)
-          ∙ sym (step-opened c i marks′ (sym (e i) ∙ p) (sym same ∙ q))
+  greedy-alike (suc c) i marks marks′ e =
+      let o = opened-alike marks marks′ i e in
+      let same : fits G s t k (closedIn (set marks i 0)) goals ≡ fits G s t k (closedIn (set marks′ i 0)) goals = ap (λ (f : ℕ → Bool). fits G s t k f goals) (fun-ext o) in
+      turned-alike i (e i) same (greedy-alike c (suc i) marks marks′ e) (greedy-alike c (suc i) (set marks i 0) (set marks′ i 0) o)
 
   pub reasons-alike : (marks marks′ : List ℕ) → ((j : ℕ) → closedIn marks j ≡ closedIn marks′ j) → reasons G s t k goals marks ≡ reasons G s t k goals marks′
   unfolding reasons
