@@ -8,7 +8,7 @@ use lib.Dec.{ltb, leb, eqb, leb·suc-suc}
 use borrow.Author.Tests.{lt-ltb, le-ltb, ltb-true, ltb-false, eq-eqb, ne-eqb}
 use Rattle.lists.specs.Lists.{pick}
 use Rattle.varint.specs.Varint.{Read, got, refuse, after, readNumber, number, judged}
-use Rattle.sheet.specs.Reader.{readArc, arcHead, arcMinutes, readMark}
+use Rattle.sheet.specs.Reader.{readMark}
 
 abbrev pub under : ℕ → ℕ → Bool
 under end x = ltb x end
@@ -77,36 +77,36 @@ pub mark-number : (bs : List ℕ) → readMark bs ≡ number 11 (under 3) bs
 unfolding readMark
 mark-number bs = number-most 11 2 bs
 
-module _ (n : ℕ) (bs : List ℕ) where
-  pub tail-not : {e : ℕ} → refuse e ≡ number 9 (under n) bs → refuse e ≡ readArc n bs
-  unfolding readArc after
-  tail-not e = rw (← e)
+-- Two different numbers below n and one of at most k, as the ends of an arc and its minutes are read, and source, target and limit.
+abbrev pub ends : {A : Type 0} → ℕ → ℕ → ℕ → ℕ → (ℕ → ℕ → ℕ → A) → List ℕ → Read A
+ends why last n k build bs =
+    after (number why (under n) bs)
+    (λ a bs₁. after (number why (λ x. under n x && not (eqb x a)) bs₁) (λ b bs₂. after (number last (λ x. leb x k) bs₂) (λ c rest. got (build a b c) rest)))
 
-  module _ {t : ℕ} {r₁ : List ℕ} (et : got t r₁ ≡ number 9 (under n) bs) where
-    from-tail : readArc n bs ≡ arcHead n t r₁
-    unfolding readArc after
-    from-tail = rw (← et)
+module _ {A : Type 0} (why last n k : ℕ) (build : ℕ → ℕ → ℕ → A) (bs : List ℕ) where
+  pub first-not : {e : ℕ} → refuse e ≡ number why (under n) bs → refuse e ≡ ends why last n k build bs
+  unfolding after
+  first-not e = rw (← e)
 
-    pub head-not : {e : ℕ} → refuse e ≡ number 9 (under n) r₁ → refuse e ≡ readArc n bs
-    unfolding arcHead after
-    head-not e = sym (from-tail ∙ rw (number-and 9 (under n) (λ x. not (eqb x t)) r₁, ← e))
+  module _ {a : ℕ} {r₁ : List ℕ} (ea : got a r₁ ≡ number why (under n) bs) where
+    pub second-not : {e : ℕ} → refuse e ≡ number why (under n) r₁ → refuse e ≡ ends why last n k build bs
+    unfolding after
+    second-not e = rw (← ea, number-and why (under n) (λ x. not (eqb x a)) r₁, ← e)
 
-    module _ {h : ℕ} {r₂ : List ℕ} (eh : got h r₂ ≡ number 9 (under n) r₁) where
-      pub head-tail : h ≡ t → refuse 9 ≡ readArc n bs
-      unfolding arcHead after judged
-      head-tail q = sym (from-tail ∙ rw (number-and 9 (under n) (λ x. not (eqb x t)) r₁, ← eh, eq-eqb _ _ q))
+    module _ {b : ℕ} {r₂ : List ℕ} (eb : got b r₂ ≡ number why (under n) r₁) where
+      pub second-same : b ≡ a → refuse why ≡ ends why last n k build bs
+      unfolding after judged
+      second-same q = rw (← ea, number-and why (under n) (λ x. not (eqb x a)) r₁, ← eb, eq-eqb _ _ q)
 
-      module _ (q : h ≡ t → ⊥) where
-        from-head : readArc n bs ≡ arcMinutes t h r₂
-        unfolding arcHead after judged
-        from-head = from-tail ∙ rw (number-and 9 (under n) (λ x. not (eqb x t)) r₁, ← eh, ne-eqb _ _ q)
+      module _ (q : b ≡ a → ⊥) where
+        from-second : ends why last n k build bs ≡ after (number last (under (suc k)) r₂) (λ c rest. got (build a b c) rest)
+        unfolding after judged
+        from-second = rw (← ea, number-and why (under n) (λ x. not (eqb x a)) r₁, ← eb, ne-eqb _ _ q, number-most last k r₂)
 
-        pub minutes-not : {e : ℕ} → refuse e ≡ number 10 (under 65536) r₂ → refuse e ≡ readArc n bs
-        unfolding arcMinutes after
-        minutes-not e = sym (from-head ∙ rw (number-most 10 65535 r₂, ← e))
+        pub third-not : {e : ℕ} → refuse e ≡ number last (under (suc k)) r₂ → refuse e ≡ ends why last n k build bs
+        unfolding after
+        third-not e = sym (from-second ∙ rw (← e))
 
-        pub arc-found :
-            {w : ℕ} {r₃ : List ℕ} → got w r₃ ≡ number 10 (under 65536) r₂
-            → got (record { tail = t; head = h; weight = w }) r₃ ≡ readArc n bs
-        unfolding arcMinutes after
-        arc-found e = sym (from-head ∙ rw (number-most 10 65535 r₂, ← e))
+        pub third-read : {c : ℕ} {r₃ : List ℕ} → got c r₃ ≡ number last (under (suc k)) r₂ → got (build a b c) r₃ ≡ ends why last n k build bs
+        unfolding after
+        third-read e = sym (from-second ∙ rw (← e))

@@ -1,10 +1,21 @@
 -- `arc_at` gives what `readArc` gives: each of its three numbers decides in turn. Assumes nothing.
 use borrow.Author.Needs.{needs}
-use mathlib.Core.Path.{ap, sym, _∙_}
+use Prim.Native.Nat.{ℕ}
+use mathlib.Core.Path.{_≡_, refl, ap, sym, _∙_}
+use mathlib.Core.List.{List}
+use Rattle.walks.specs.Graph.{Arc}
+use Rattle.sheet.specs.Reader.{arcMinutes, arcHead, readArc}
 use Rattle.sheet_values.specs.Values.{judgedOf}
-use Rattle.sheet_values.proofs.ReadLaws.{tail-not, head-not, head-tail, minutes-not, arc-found}
+use Rattle.sheet_values.proofs.ReadLaws.{ends, first-not, second-not, second-same, third-not, third-read}
 use Rattle.sheet_parts.proofs.arc_at.Statement.{statement}
 use Rattle.sheet_parts.proofs.arc_at.Tie as tie
+
+abbrev arc : ℕ → ℕ → ℕ → Arc
+arc t h w = record { tail = t; head = h; weight = w }
+
+read-ends : (n : ℕ) (bs : List ℕ) → ends 9 10 n 65535 arc bs ≡ readArc n bs
+unfolding readArc arcHead arcMinutes
+read-ends n bs = refl
 
 judged-at-requires : tie.Need-judged-at-requires
 judged-at-requires c κs = search needs
@@ -26,8 +37,8 @@ enum-known-head c = search needs
 
 returns : tie.Need-returns
 returns c =
-    head-tail _ _ (ap (judgedOf _) (sym (c .before .before .before .before .before .before .tail .given .1)) ∙ c .before .before .before .before .before .before .before .before .judged-at .ensures .0)
-    (ap (judgedOf _) (sym (c .before .before .head .given .1)) ∙ c .before .before .before .before .judged-at2 .ensures .0) (c .if1 .taken)
+    second-same 9 10 _ 65535 arc _ (ap (judgedOf _) (sym (c .before .before .before .before .before .before .tail .given .1)) ∙ c .before .before .before .before .before .before .before .before .judged-at .ensures .0)
+    (ap (judgedOf _) (sym (c .before .before .head .given .1)) ∙ c .before .before .before .before .judged-at2 .ensures .0) (c .if1 .taken) ∙ read-ends _ _
 
 judged-at-requires-3 : tie.Need-judged-at-requires-3
 judged-at-requires-3 c κs = search needs
@@ -39,24 +50,24 @@ enum-known-minutes : tie.Need-enum-known-minutes
 enum-known-minutes c = search needs
 
 returns-2 : tie.Need-returns-2
-returns-2 c = tail-not _ _ (ap (judgedOf _) (sym (c .before .why .given .1)) ∙ c .before .before .before .judged-at .ensures .0)
+returns-2 c = first-not 9 10 _ 65535 arc _ (ap (judgedOf _) (sym (c .before .why .given .1)) ∙ c .before .before .before .judged-at .ensures .0) ∙ read-ends _ _
 
 returns-3 : tie.Need-returns-3
 returns-3 c =
-    head-not _ _ (ap (judgedOf _) (sym (c .before .before .before .before .before .tail .given .1)) ∙ c .before .before .before .before .before .before .before .judged-at .ensures .0)
-    (ap (judgedOf _) (sym (c .before .why2 .given .1)) ∙ c .before .before .before .judged-at2 .ensures .0)
+    second-not 9 10 _ 65535 arc _ (ap (judgedOf _) (sym (c .before .before .before .before .before .tail .given .1)) ∙ c .before .before .before .before .before .before .before .judged-at .ensures .0)
+    (ap (judgedOf _) (sym (c .before .why2 .given .1)) ∙ c .before .before .before .judged-at2 .ensures .0) ∙ read-ends _ _
 
 returns-4 : tie.Need-returns-4
 returns-4 c =
-    minutes-not _ _ (ap (judgedOf _) (sym (c .before .before .before .before .before .before .before .before .before .before .tail .given .1)) ∙ c .before .before .before .before .before .before .before .before .before .before .before .before .judged-at .ensures .0)
+    third-not 9 10 _ 65535 arc _ (ap (judgedOf _) (sym (c .before .before .before .before .before .before .before .before .before .before .tail .given .1)) ∙ c .before .before .before .before .before .before .before .before .before .before .before .before .judged-at .ensures .0)
     (ap (judgedOf _) (sym (c .before .before .before .before .before .before .head .given .1)) ∙ c .before .before .before .before .before .before .before .before .judged-at2 .ensures .0) (c .before .before .before .before .if1 .left)
-    (ap (judgedOf _) (sym (c .before .why3 .given .1)) ∙ c .before .before .before .judged-at3 .ensures .0)
+    (ap (judgedOf _) (sym (c .before .why3 .given .1)) ∙ c .before .before .before .judged-at3 .ensures .0) ∙ read-ends _ _
 
 returns-5 : tie.Need-returns-5
 returns-5 c =
-    arc-found _ _ (ap (judgedOf _) (sym (c .before .before .before .before .before .before .before .before .before .before .tail .given .1)) ∙ c .before .before .before .before .before .before .before .before .before .before .before .before .judged-at .ensures .0)
+    third-read 9 10 _ 65535 arc _ (ap (judgedOf _) (sym (c .before .before .before .before .before .before .before .before .before .before .tail .given .1)) ∙ c .before .before .before .before .before .before .before .before .before .before .before .before .judged-at .ensures .0)
     (ap (judgedOf _) (sym (c .before .before .before .before .before .before .head .given .1)) ∙ c .before .before .before .before .before .before .before .before .judged-at2 .ensures .0) (c .before .before .before .before .if1 .left)
-    (ap (judgedOf _) (sym (c .before .minutes .given .1)) ∙ c .before .before .before .judged-at3 .ensures .0)
+    (ap (judgedOf _) (sym (c .before .minutes .given .1)) ∙ c .before .before .before .judged-at3 .ensures .0) ∙ read-ends _ _
 
 pub arc-at-spec : {M : Type 1} → statement M
 arc-at-spec =

@@ -1,12 +1,22 @@
 -- `header_ends` reads source, target and limit as `headerSource` does, and each keeps its bound. Each number decides one step. Assumes nothing.
 use borrow.Author.Needs.{needs}
-use mathlib.Core.Path.{ap, sym, _∙_}
+use Prim.Native.Nat.{ℕ}
+use mathlib.Core.Path.{_≡_, refl, ap, sym, _∙_}
+use mathlib.Core.List.{List}
 use native.Mathlib.Omega.{arith}
+use Rattle.sheet.specs.declared.Header.{Header}
+use Rattle.sheet.specs.Reader.{headerLimit, headerTarget, headerSource}
 use Rattle.sheet_values.specs.Values.{judgedOf, nextOf}
-use Rattle.sheet_values.proofs.ReadLaws.{number-below}
-use Rattle.sheet_parts.proofs.HeaderLaws.{source-not, target-not, target-source, limit-not, header-read}
+use Rattle.sheet_values.proofs.ReadLaws.{number-below, ends, first-not, second-not, second-same, third-not, third-read}
 use Rattle.sheet_parts.proofs.header_ends.Statement.{statement}
 use Rattle.sheet_parts.proofs.header_ends.Tie as tie
+
+abbrev header : ℕ → ℕ → ℕ → ℕ → ℕ → Header
+header n m s t k = record { nodes = n; arcs = m; source = s; target = t; limit = k }
+
+read-ends : (n m : ℕ) (bs : List ℕ) → ends 7 8 n 1000000 (header n m) bs ≡ headerSource n m bs
+unfolding headerSource headerTarget headerLimit
+read-ends n m bs = refl
 
 judged-at-requires : tie.Need-judged-at-requires
 judged-at-requires c κs = search needs
@@ -18,7 +28,7 @@ enum-known-why : tie.Need-enum-known-why
 enum-known-why c = search needs
 
 returns : tie.Need-returns
-returns c = (source-not _ _ _ (ap (judgedOf _) (sym (c .before .why .given .1)) ∙ c .before .before .before .judged-at .ensures .0), tt)
+returns c = (first-not 7 8 _ 1000000 (header _ _) _ (ap (judgedOf _) (sym (c .before .why .given .1)) ∙ c .before .before .before .judged-at .ensures .0) ∙ read-ends _ _ _, tt)
 
 judged-at-requires-2 : tie.Need-judged-at-requires-2
 judged-at-requires-2 c κs = search needs
@@ -31,15 +41,17 @@ enum-known-why-2 c = search needs
 
 returns-2 : tie.Need-returns-2
 returns-2 c = (
-  target-not _ _ _ (ap (judgedOf _) (sym (c .before .before .before .before .before .x .given .1)) ∙ c .before .before .before .before .before .before .before .judged-at .ensures .0)
-      (ap (judgedOf _) (sym (c .before .why2 .given .1)) ∙ c .before .before .before .judged-at2 .ensures .0),
+  second-not 7 8 _ 1000000 (header _ _) _ (ap (judgedOf _) (sym (c .before .before .before .before .before .x .given .1)) ∙ c .before .before .before .before .before .before .before .judged-at .ensures .0)
+      (ap (judgedOf _) (sym (c .before .why2 .given .1)) ∙ c .before .before .before .judged-at2 .ensures .0)
+      ∙ read-ends _ _ _,
   tt,
 )
 
 returns-3 : tie.Need-returns-3
 returns-3 c = (
-  target-source _ _ _ (ap (judgedOf _) (sym (c .before .before .before .before .before .before .before .before .x .given .1)) ∙ c .before .before .before .before .before .before .before .before .before .before .judged-at .ensures .0)
-      (ap (judgedOf _) (sym (c .before .before .before .before .x2 .given .1)) ∙ c .before .before .before .before .before .before .judged-at2 .ensures .0) (c .if1 .taken),
+  second-same 7 8 _ 1000000 (header _ _) _ (ap (judgedOf _) (sym (c .before .before .before .before .before .before .before .before .x .given .1)) ∙ c .before .before .before .before .before .before .before .before .before .before .judged-at .ensures .0)
+      (ap (judgedOf _) (sym (c .before .before .before .before .x2 .given .1)) ∙ c .before .before .before .before .before .before .judged-at2 .ensures .0) (c .if1 .taken)
+      ∙ read-ends _ _ _,
   tt,
 )
 
@@ -63,7 +75,7 @@ returns-4 c =
     let a = (ap (judgedOf _) (sym (c .before .before .before .before .before .before .before .before .before .before .before .before .before .before .x .given .1)) ∙ c .before .before .before .before .before .before .before .before .before .before .before .before .before .before .before .before .judged-at .ensures .0) in
     let b = (ap (judgedOf _) (sym (c .before .before .before .before .before .before .before .before .before .before .x2 .given .1)) ∙ c .before .before .before .before .before .before .before .before .before .before .before .before .judged-at2 .ensures .0) in
     let k = (ap (judgedOf _) (sym (c .before .before .before .limit .given .1)) ∙ c .before .before .before .before .before .judged-at3 .ensures .0) in (
-      header-read _ _ _ a b (c .before .before .before .before .before .before .if1 .left) k,
+      third-read 7 8 _ 1000000 (header _ _) _ a b (c .before .before .before .before .before .before .if1 .left) k ∙ read-ends _ _ _,
       record {
         some = c .before .before .before .before .before .before .before .before .before .before .before .before .before .before .before .before .before .before .pre .0;
         few = c .before .before .before .before .before .before .before .before .before .before .before .before .before .before .before .before .before .before .pre .1;
@@ -77,9 +89,10 @@ returns-4 c =
 
 returns-5 : tie.Need-returns-5
 returns-5 c = (
-  limit-not _ _ _ (ap (judgedOf _) (sym (c .before .before .before .before .before .before .before .before .before .before .before .before .x .given .1)) ∙ c .before .before .before .before .before .before .before .before .before .before .before .before .before .before .judged-at .ensures .0)
+  third-not 7 8 _ 1000000 (header _ _) _ (ap (judgedOf _) (sym (c .before .before .before .before .before .before .before .before .before .before .before .before .x .given .1)) ∙ c .before .before .before .before .before .before .before .before .before .before .before .before .before .before .judged-at .ensures .0)
       (ap (judgedOf _) (sym (c .before .before .before .before .before .before .before .before .x2 .given .1)) ∙ c .before .before .before .before .before .before .before .before .before .before .judged-at2 .ensures .0) (c .before .before .before .before .if1 .left)
-      (ap (judgedOf _) (sym (c .before .why3 .given .1)) ∙ c .before .before .before .judged-at3 .ensures .0),
+      (ap (judgedOf _) (sym (c .before .why3 .given .1)) ∙ c .before .before .before .judged-at3 .ensures .0)
+      ∙ read-ends _ _ _,
   tt,
 )
 
