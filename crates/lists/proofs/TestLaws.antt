@@ -30,6 +30,14 @@ pub or-true : (a b : Bool) → (a || b) ≡ true → (a ≡ true) ⊎ (b ≡ tru
 or-true true b e = inl refl
 or-true false b e = inr e
 
+pub or-of : (a b : Bool) → (a ≡ true) ⊎ (b ≡ true) → (a || b) ≡ true
+or-of a b (inl e) = rw e
+or-of a b (inr e) = true-or a b e
+
+pub true-of : (t : Bool) → (t ≡ false → ⊥) → t ≡ true
+true-of true h = refl
+true-of false h = absurd (h refl)
+
 pub false-of : (t : Bool) → (t ≡ true → ⊥) → t ≡ false
 false-of true h = absurd (h refl)
 false-of false h = refl

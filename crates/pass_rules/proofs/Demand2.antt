@@ -11,7 +11,7 @@ use lib.Dec.{eqb}
 use borrow.Author.Tests.{eqb-true, eqb-false}
 use Rattle.lists.proofs.AscendLaws.{span-member, member-span}
 use Rattle.lists.proofs.MemberLaws.{member-keep, keep-member, member-none}
-use Rattle.lists.proofs.TestLaws.{true-or, or-true, true-or-false}
+use Rattle.lists.proofs.TestLaws.{or-true, or-of, true-of, true-or-false}
 use Rattle.lists.specs.Lists.{member}
 use Rattle.sheet.proofs.MarkLaws.{required-is, is-required}
 use Rattle.sheet.proofs.SlipLaws.{slip-back}
@@ -47,11 +47,7 @@ pub is-demanded : (S : Sheet) (p : ℕ) → p < S .graph .nodes → (isMandatory
 unfolding demandedNodes allNodes
 is-demanded S p h d =
     member-keep (λ q. isMandatory S q || endsMandatory S q (allArcs (S .graph))) p (allNodes (S .graph))
-    (member-span (S .graph .nodes) 0 p (omega arith) (omega arith)) (either d)
-  where
-    either : (isMandatory S p ≡ true) ⊎ (endsMandatory S p (allArcs (S .graph)) ≡ true) → (isMandatory S p || endsMandatory S p (allArcs (S .graph))) ≡ true
-    either (inl q) = rw q
-    either (inr q) = true-or (isMandatory S p) (endsMandatory S p (allArcs (S .graph))) q
+    (member-span (S .graph .nodes) 0 p (omega arith) (omega arith)) (or-of (isMandatory S p) (endsMandatory S p (allArcs (S .graph))) d)
 
 pub required-demanded : (S : Sheet) (p : ℕ) → member p (required S) ≡ true → member p (demandedNodes S) ≡ true
 required-demanded S p m = let r = required-is S p m in is-demanded S p (r .node) (r .demanded)
@@ -88,11 +84,8 @@ demanded-required S = (λ n w e. n w (more w e), λ n w e. n w (fewer w e))
 
 -- where some walk meets all required nodes, some walk meets all demanded ones
 pub demanded-met : (S : Sheet) → fitsSheet S (required S) ≡ true → fitsSheet S (demandedNodes S) ≡ true
-demanded-met S e = go (true-or-false (fitsSheet S (demandedNodes S)))
-  where
-    go : (fitsSheet S (demandedNodes S) ≡ true) ⊎ (fitsSheet S (demandedNodes S) ≡ false) → fitsSheet S (demandedNodes S) ≡ true
-    go (inl q) = q
-    go (inr q) = absurd (true≢false (sym e ∙ no-walk S (required S) .1 (demanded-required S .0 (no-walk S (demandedNodes S) .0 q))))
+demanded-met S e =
+    true-of (fitsSheet S (demandedNodes S)) (λ q. true≢false (sym e ∙ no-walk S (required S) .1 (demanded-required S .0 (no-walk S (demandedNodes S) .0 q))))
 
 -- where the verdict is not 0, a walk is missing, and the other way
 refusal-is : (S : Sheet) → (verdict S .number ≡ 0 → ⊥) → Refusal S

@@ -12,15 +12,14 @@ use borrow.Author.Tests.{eqb-true, eq-eqb, lt-ltb}
 use Rattle.lists.proofs.AscendLaws.{span-member, member-span}
 use Rattle.lists.proofs.MemberLaws.{member-head}
 use Rattle.lists.proofs.TestLaws.{and-true, true-and, or-true, true-or}
-use Rattle.lists.specs.Lists.{member}
 use Rattle.sheet.proofs.MarkLaws.{ends-mandatory, is-end}
 use Rattle.sheet.proofs.SheetLaws.{good-tail, good-head}
 use Rattle.sheet.specs.Good.{Good}
 use Rattle.sheet.specs.Sheet.{Sheet, isForbidden, allArcs, endsMandatory}
-use Rattle.walks.proofs.Join.{meets-at, ends-met, first-item, last-item}
+use Rattle.walks.proofs.Join.{meets-at, end-met, first-item, last-item}
 use Rattle.walks.proofs.LeastLaw.{fit-walk}
-use Rattle.walks.specs.Graph.{arcItem, tailOf, headOf, items}
-use Rattle.pass_rules.proofs.VerdictLaws.{SomeWalkOn, some-walk, one-fits, Stands}
+use Rattle.walks.specs.Graph.{arcItem}
+use Rattle.pass_rules.proofs.VerdictLaws.{some-walk, one-fits, Stands}
 use Rattle.pass_rules.specs.Route.{Forced, is-source, is-target, ends-arc}
 use Rattle.pass_rules.specs.Verdict.{fitsSheet, isForced}
 
@@ -68,20 +67,12 @@ module _ (S : Sheet) where
       let v = some-walk S [] .0 (z .some) in
       one-fits S [] v p
       (rw q (last-item (S .graph) (isForbidden S) (S .source) (S .target) (v .way) (fit-walk (S .graph) (isForbidden S) [] (S .target) (S .source) (v .way) (v .fitting) .0)))
-  forced-met z p (ends-arc l h m e) = met (some-walk S (arcItem (S .graph) l ∷ []) .0 (z .each (arcItem (S .graph) l) item m)) e
+  forced-met z p (ends-arc l h m e) =
+      let v = some-walk S (arcItem (S .graph) l ∷ []) .0 (z .each (arcItem (S .graph) l) item m) in
+      let f = fit-walk (S .graph) (isForbidden S) (arcItem (S .graph) l ∷ []) (S .target) (S .source) (v .way) (v .fitting) in
+      one-fits S (arcItem (S .graph) l ∷ []) v p
+      (end-met (S .graph) (isForbidden S) (S .target) l p (S .source) (v .way) (f .0)
+      (meets-at (S .graph) (arcItem (S .graph) l ∷ []) (S .source) (v .way) (arcItem (S .graph) l) (f .1) (member-head (arcItem (S .graph) l) [])) e)
     where
       item : arcItem (S .graph) l < S .graph .nodes + length (S .graph .arcs)
       item = omega arith
-
-      met : SomeWalkOn S (arcItem (S .graph) l ∷ []) → (tailOf (S .graph) l ≡ p) ⊎ (headOf (S .graph) l ≡ p) → fitsSheet S (p ∷ []) ≡ true
-      met v e = one-fits S (arcItem (S .graph) l ∷ []) v p (end e)
-        where
-          ends : (member (tailOf (S .graph) l) (items (S .graph) (S .source) (v .way)) ≡ true) × (member (headOf (S .graph) l) (items (S .graph) (S .source) (v .way)) ≡ true)
-          ends =
-              let f = fit-walk (S .graph) (isForbidden S) (arcItem (S .graph) l ∷ []) (S .target) (S .source) (v .way) (v .fitting) in
-              ends-met (S .graph) (isForbidden S) (S .target) l (S .source) (v .way) (f .0)
-              (meets-at (S .graph) (arcItem (S .graph) l ∷ []) (S .source) (v .way) (arcItem (S .graph) l) (f .1) (member-head (arcItem (S .graph) l) []))
-
-          end : (tailOf (S .graph) l ≡ p) ⊎ (headOf (S .graph) l ≡ p) → member p (items (S .graph) (S .source) (v .way)) ≡ true
-          end (inl q) = rw (← q) (ends .0)
-          end (inr q) = rw (← q) (ends .1)

@@ -3,27 +3,28 @@
 use Prim.Native.Nat.{ℕ, suc, _+_, _≤_, _<_}
 use mathlib.Core.Path.{_≡_, sym, ap, _∙_}
 use mathlib.Core.Logic.{_⊎_, inl, inr}
-use mathlib.Core.Bool.{Bool, true, false, not, _&&_, _||_, true≢false}
+use mathlib.Core.Bool.{Bool, true, false, not, _&&_, true≢false}
 use mathlib.Core.List.{List, []}
 use native.Mathlib.Omega.{arith}
 use lib.ListN.{length, List·getD-eq-default}
-use lib.Dec.{eqb, ltb}
-use borrow.Author.Tests.{eqb-true, ltb-true, ltb-false}
+use lib.Dec.{ltb}
+use borrow.Author.Tests.{ltb-true, ltb-false}
 use Rattle.lists.proofs.AscendLaws.{span-member}
 use Rattle.lists.proofs.MemberLaws.{member-none, member-keep, keep-member, every-all}
-use Rattle.lists.proofs.TestLaws.{true-or-false, or-true, and-true, true-and, false-of}
+use Rattle.lists.proofs.TestLaws.{true-or-false, and-true, true-and, false-of}
 use Rattle.lists.specs.Lists.{member}
 use Rattle.sheet.proofs.MarkLaws.{Required, required-is, is-item, item-is, ends-mandatory, forbidden-mark, is-mandatory, mandatory-mark}
 use Rattle.sheet.specs.Sheet.{Sheet, markOf, isOpen, isMandatory, isForbidden, allItems, allArcs, endsMandatory, required}
 use Rattle.walks.proofs.FitsLaws.{fit-narrower}
-use Rattle.walks.proofs.Join.{meets-all, meets-at, ends-met, fit-clear, first-item, last-item}
+use Rattle.walks.proofs.Join.{meets-all, meets-at, end-met, fit-clear, first-item, last-item}
 use Rattle.walks.proofs.LeastLaw.{fit-walk}
-use Rattle.walks.specs.Graph.{Graph, itemCount, arcItem, tailOf, headOf, items, chain, clear, meets, fit}
+use Rattle.walks.specs.Graph.{Graph, itemCount, arcItem, items, chain, clear, meets, fit}
 use Rattle.walks.specs.Walk.{Walk}
+use Rattle.pass_rules.proofs.ForcedLaws.{forced-is}
 use Rattle.pass_rules.proofs.SlipOfPass.{new-marks-size, new-marks-at}
 use Rattle.pass_rules.proofs.VerdictLaws.{SomeWalkOn, met-fits, one-fits, Stands, pruned-mark, forced-mark, other-mark, forbidden-stays, mandatory-stays}
-use Rattle.pass_rules.specs.Route.{Route, mandatory, marked}
-use Rattle.pass_rules.specs.Verdict.{newMark, newMarks, isForced}
+use Rattle.pass_rules.specs.Route.{Route, mandatory, marked, Forced, is-source, is-target, ends-arc}
+use Rattle.pass_rules.specs.Verdict.{newMark, newMarks}
 
 module _ (S : Sheet) (w : List ℕ) (R : Route S w) where
   met : List ℕ
@@ -39,24 +40,19 @@ module _ (S : Sheet) (w : List ℕ) (R : Route S w) where
       (member-keep (isMandatory S) i (allItems (S .graph)) (is-item (S .graph) i h) m)
 
   -- the ends of a mandatory arc are met
-  end-met : (p : ℕ) → endsMandatory S p (allArcs (S .graph)) ≡ true → member p met ≡ true
+  arc-end-met : (p : ℕ) → endsMandatory S p (allArcs (S .graph)) ≡ true → member p met ≡ true
   unfolding allArcs arcItem met
-  end-met p q =
+  arc-end-met p q =
       let f = ends-mandatory S p (allArcs (S .graph)) q in
       let h : f .0 < length (S .graph .arcs) = omega (arith, span-member (length (S .graph .arcs)) 0 (f .0) (f .1) .1) in
-      end (f .0) (ends-met (S .graph) (isForbidden S) (S .target) (f .0) (S .source) w walk (mandatory-met (S .graph .nodes + f .0) (omega arith) (f .2))) (f .3)
-    where
-      end : (l : ℕ) → (member (tailOf (S .graph) l) met ≡ true) × (member (headOf (S .graph) l) met ≡ true)
-          → (tailOf (S .graph) l ≡ p) ⊎ (headOf (S .graph) l ≡ p) → member p met ≡ true
-      end l e (inl q) = rw (← q) (e .0)
-      end l e (inr q) = rw (← q) (e .1)
+      end-met (S .graph) (isForbidden S) (S .target) (f .0) p (S .source) w walk (mandatory-met (S .graph .nodes + f .0) (omega arith) (f .2)) (f .3)
 
   required-met : (p : ℕ) → member p (required S) ≡ true → member p met ≡ true
   required-met p m = let r = required-is S p m in go r (r .demanded)
     where
       go : Required S p → (isMandatory S p ≡ true) ⊎ (endsMandatory S p (allArcs (S .graph)) ≡ true) → member p met ≡ true
       go r (inl q) = mandatory-met p (omega (arith, r .node)) q
-      go r (inr q) = end-met p q
+      go r (inr q) = arc-end-met p q
 
   some : SomeWalkOn S (mandatory S)
   some = record { way = w; fitting = R .obeys; short = R .short }
@@ -83,21 +79,17 @@ module _ (S : Sheet) (w : List ℕ) (R : Route S w) where
 
   -- and it meets each item that ends mandatory
   pub route-meets : (i : ℕ) → i < itemCount (S .graph) → newMark S i ≡ 1 → member i (items (S .graph) (S .source) w) ≡ true
-  unfolding isForced met
+  unfolding met arcItem
   route-meets i h e = go (true-or-false (isOpen S i))
     where
-      forced : (eqb i (S .source) ≡ true) ⊎ ((eqb i (S .target) || endsMandatory S i (allArcs (S .graph))) ≡ true) → member i met ≡ true
-      forced (inl q) = rw (eqb-true i (S .source) q) (first-item (S .graph) (S .source) w)
-      forced (inr q) = last (or-true (eqb i (S .target)) (endsMandatory S i (allArcs (S .graph))) q)
-        where
-          last : (eqb i (S .target) ≡ true) ⊎ (endsMandatory S i (allArcs (S .graph)) ≡ true) → member i met ≡ true
-          last (inl q) = rw (eqb-true i (S .target) q) (last-item (S .graph) (isForbidden S) (S .source) (S .target) w walk)
-          last (inr q) = end-met i q
+      forced : Forced S i → member i met ≡ true
+      forced (is-source q) = rw q (first-item (S .graph) (S .source) w)
+      forced (is-target q) = rw q (last-item (S .graph) (isForbidden S) (S .source) (S .target) w walk)
+      forced (ends-arc l h m q) =
+          end-met (S .graph) (isForbidden S) (S .target) l i (S .source) w walk (mandatory-met (S .graph .nodes + l) (omega arith) m) q
 
       go : (isOpen S i ≡ true) ⊎ (isOpen S i ≡ false) → member i met ≡ true
-      go (inl o) =
-          let f = and-true (ltb i (S .graph .nodes)) (eqb i (S .source) || (eqb i (S .target) || endsMandatory S i (allArcs (S .graph)))) (forced-mark S i o e) in
-          forced (or-true (eqb i (S .source)) (eqb i (S .target) || endsMandatory S i (allArcs (S .graph))) (f .1))
+      go (inl o) = forced (forced-is S i (forced-mark S i o e))
       go (inr o) = mandatory-met i h (is-mandatory S i (sym (other-mark S i o) ∙ e))
 
 -- a walk that fits still does where it meets nothing closed and all that is asked

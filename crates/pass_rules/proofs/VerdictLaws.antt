@@ -7,7 +7,7 @@ use mathlib.Core.List.{List, [], _∷_}
 use native.Mathlib.Omega.{arith}
 use Rattle.lists.proofs.AscendLaws.{keep-lowest}
 use Rattle.lists.proofs.MemberLaws.{member-head, member-one, member-none, keep-member, member-keep}
-use Rattle.lists.proofs.TestLaws.{and-true, true-and, false-of, not-true}
+use Rattle.lists.proofs.TestLaws.{and-true, true-and, true-of, false-of, not-true}
 use Rattle.lists.specs.Lists.{pick, member}
 use Rattle.sheet.proofs.MarkLaws.{is-item, item-is, open-mark}
 use Rattle.sheet.specs.Sheet.{Sheet, markOf, isOpen, isMandatory, isForbidden, allItems, required}
@@ -73,11 +73,7 @@ missed S i = isMandatory S i && not (fitsSheet S (i ∷ []))
 
 met-or : (S : Sheet) (j : ℕ) → missed S j ≡ false → isMandatory S j ≡ true → fitsSheet S (j ∷ []) ≡ true
 unfolding missed
-met-or S j e m = go (fitsSheet S (j ∷ [])) refl
-  where
-    go : (t : Bool) → fitsSheet S (j ∷ []) ≡ t → t ≡ true
-    go true q = refl
-    go false q = absurd (true≢false (sym (true-and m (ap not q)) ∙ e))
+met-or S j e m = true-of (fitsSheet S (j ∷ [])) (λ q. true≢false (sym (true-and m (ap not q)) ∙ e))
 
 unmet-none : (S : Sheet) → unmet S ≡ [] → EachMet S
 unfolding unmet missed

@@ -10,7 +10,7 @@ use borrow.Author.Tests.{eqb-true, eqb-false, eq-eqb, ne-eqb}
 use Rattle.lists.proofs.AscendLaws.{keep-ascends, span-member, member-span}
 use Rattle.lists.proofs.MemberLaws.{member-head, member-tail, member-cases, member-none, keep-member, member-keep}
 use Rattle.lists.proofs.Pigeonhole.{Below, below-all}
-use Rattle.lists.proofs.TestLaws.{and-true, true-and, or-true, true-or, not-true}
+use Rattle.lists.proofs.TestLaws.{and-true, true-and, or-true, true-or, or-of, not-true}
 use Rattle.lists.specs.Lists.{member, ascends}
 use Rattle.walks.specs.Graph.{Graph, tailOf, headOf, arcItem, itemCount}
 use Rattle.sheet.specs.Sheet.{isForbidden, Sheet, markOf, isOpen, isMandatory, allItems, allNodes, allArcs, endsMandatory, isRequired, required}
@@ -92,14 +92,10 @@ pub is-required : (S : Sheet) (p : ℕ) → Required S p → member p (required 
 unfolding required isRequired allNodes
 is-required S p r =
     member-keep (isRequired S) p (allNodes (S .graph)) (member-span (S .graph .nodes) 0 p (omega arith) (omega (arith, r .node)))
-    (true-and (apart (S .source) (r .between .0)) (true-and (apart (S .target) (r .between .1)) (either (r .demanded))))
+    (true-and (apart (S .source) (r .between .0)) (true-and (apart (S .target) (r .between .1)) (or-of (isMandatory S p) (endsMandatory S p (allArcs (S .graph))) (r .demanded))))
   where
     apart : (q : ℕ) → (p ≡ q → ⊥) → not (eqb p q) ≡ true
     apart q n = rw (ne-eqb p q n)
-
-    either : (isMandatory S p ≡ true) ⊎ (endsMandatory S p (allArcs (S .graph)) ≡ true) → (isMandatory S p || endsMandatory S p (allArcs (S .graph))) ≡ true
-    either (inl q) = rw q
-    either (inr q) = true-or (isMandatory S p) (endsMandatory S p (allArcs (S .graph))) q
 
 pub required-below : (S : Sheet) → Below (S .graph .nodes) (required S)
 required-below S = below-all (S .graph .nodes) (required S) (λ p m. required-is S p m .node)

@@ -5,7 +5,7 @@ use mathlib.Core.Bool.{Bool, true, false, false≢true, true≢false}
 use mathlib.Core.List.{List, [], _∷_}
 use native.Mathlib.Omega.{arith}
 use borrow.Author.Tests.{leb-true, leb-false}
-use Rattle.lists.proofs.TestLaws.{false-of}
+use Rattle.lists.proofs.TestLaws.{true-of, false-of}
 use Rattle.walks.proofs.GoalLaws.{Under, Includes}
 use Rattle.walks.proofs.Join.{meets-all, meets-at}
 use Rattle.walks.proofs.LeastLaw.{fit-walk, walk-fit, Upto, Attained, is-least}
@@ -88,11 +88,7 @@ module _ (G : Graph) (s t k : ℕ) (closed : ℕ → Bool) (goals : List ℕ) wh
   none-fits n = false-of (fits G s t k closed goals) (λ q. let v = fits-some q in absurd (omega (arith, n (v .way) (v .fitting), v .short)))
 
   pub some-fits : SomeWalk G s t k closed goals → fits G s t k closed goals ≡ true
-  some-fits v = go (fits G s t k closed goals) refl
-    where
-      go : (b : Bool) → fits G s t k closed goals ≡ b → b ≡ true
-      go true q = refl
-      go false q = absurd (omega (arith, fits-none q (v .way) (v .fitting), v .short))
+  some-fits v = true-of (fits G s t k closed goals) (λ q. absurd (omega (arith, fits-none q (v .way) (v .fitting), v .short)))
 
 -- fewer closures, fewer goals and a greater limit keep a walk
 pub fits-mono : (G : Graph) (s t k k′ : ℕ) (c c′ : ℕ → Bool) (gs gs′ : List ℕ) → Narrower G c c′ → Includes gs gs′ → k ≤ k′

@@ -82,7 +82,7 @@ module _ (G : Graph) (closed : ℕ → Bool) where
 
 -- a walk that uses an arc touches its ends
 module _ (G : Graph) (closed : ℕ → Bool) (b : ℕ) where
-  pub ends-met : (l a : ℕ) (w : List ℕ) → Walk G closed a b w → member (arcItem G l) (items G a w) ≡ true
+  ends-met : (l a : ℕ) (w : List ℕ) → Walk G closed a b w → member (arcItem G l) (items G a w) ≡ true
       → (member (tailOf G l) (items G a w) ≡ true) × (member (headOf G l) (items G a w) ≡ true)
   unfolding items arcItem
   ends-met l a [] W e = absurd (omega (arith, W .node, member-one (G .nodes + l) a e))
@@ -98,6 +98,11 @@ module _ (G : Graph) (closed : ℕ → Bool) (b : ℕ) where
           let l≡ : l ≡ l′ = omega arith in
           (rw (l≡, W .0 .leaves) (first-item G a (l′ ∷ w)), rw l≡ (items-later G (headOf G l′) a l′ w (first-item G (headOf G l′) w)))
       go (inr (inr q)) ih = let m = ih q in (items-later G (tailOf G l) a l′ w (m .0), items-later G (headOf G l) a l′ w (m .1))
+
+  pub end-met : (l p a : ℕ) (w : List ℕ) → Walk G closed a b w → member (arcItem G l) (items G a w) ≡ true → (tailOf G l ≡ p) ⊎ (headOf G l ≡ p)
+      → member p (items G a w) ≡ true
+  end-met l p a w W m (inl q) = rw (← q) (ends-met l a w W m .0)
+  end-met l p a w W m (inr q) = rw (← q) (ends-met l a w W m .1)
 
 -- a walk touches its last node
 pub last-item : (G : Graph) (closed : ℕ → Bool) (a b : ℕ) (w : List ℕ) → Walk G closed a b w → member b (items G a w) ≡ true
