@@ -6,6 +6,7 @@ use native.Mathlib.Omega.{arith}
 use lib.ListN.{length, set, length-append}
 use Rattle.lists.specs.Lists.{front}
 use Rattle.lists.proofs.FrontLaws.{length-front, push-at}
+use Rattle.varint.proofs.VarintLaws.{several-first}
 use Rattle.varint.specs.Varint.{Read, got, refuse, after, several}
 use Rattle.numbers.specs.Begun.{ahead, begun}
 
@@ -121,27 +122,12 @@ module _
     plain-stored v l = push-at (w .way .xs) old out j v (w .holds) (w .way .size) (omega arith)
 
 -- k values were asked for: so many were read, and these are the ones that `begun` names
-one-more :
-    {A : Type 0} {k : ℕ} (a : A) (r : Read (List A)) (zs : List A) {xs : List A} {rest : List ℕ}
-    → ((ys : List A) (end : List ℕ) → got ys end ≡ r → (length ys ≡ k) × (zs ≡ ys)) → got xs rest ≡ after r (λ ys bs. got (a ∷ ys) bs)
-    → (length xs ≡ suc k) × (a ∷ zs ≡ xs)
-unfolding after
-one-more a (got ys end) zs {xs = xs} f e =
-    let q : xs ≡ a ∷ ys = cc in
-    (ap length q ∙ ap suc (f ys end refl .0), ap (λ ws. a ∷ ws) (f ys end refl .1) ∙ sym q)
-one-more a (refuse n) zs f e = absurd (let z : _≡_ {A = ℕ} 0 1 = cc in omega arith)
-
-first-more :
-    {A : Type 0} {k : ℕ} (g : List ℕ → Read (List A)) (b : List ℕ → List A) (r : Read A) {xs : List A} {rest : List ℕ}
-    → ((bs : List ℕ) (ys : List A) (end : List ℕ) → got ys end ≡ g bs → (length ys ≡ k) × (b bs ≡ ys))
-    → got xs rest ≡ after r (λ a bs. after (g bs) (λ ys end. got (a ∷ ys) end)) → (length xs ≡ suc k) × (ahead r (λ a bs. a ∷ b bs) ≡ xs)
-unfolding after ahead
-first-more g b (got a bs) f e = one-more a (g bs) (b bs) (f bs) e
-first-more g b (refuse n) f e = absurd (let z : _≡_ {A = ℕ} 0 1 = cc in omega arith)
-
 pub several-read :
     {A : Type 0} (f : List ℕ → Read A) (k : ℕ) (bs : List ℕ) (xs : List A) (rest : List ℕ) → got xs rest ≡ several f k bs
     → (length xs ≡ k) × (begun f k bs ≡ xs)
 unfolding several begun
 several-read f zero bs xs rest e = let q : xs ≡ [] = cc in (ap length q, sym q)
-several-read f (suc k) bs xs rest e = first-more (several f k) (begun f k) (f bs) (several-read f k) e
+several-read f (suc k) bs xs rest e =
+    let s = several-first f k bs xs rest (sym e) in
+    let i = several-read f k (s .1) (s .2) rest (sym (s .4)) in
+    (ap length (s .5) ∙ ap suc (i .0), begun-more f k (sym (s .3)) ∙ ap (s .0 ∷_) (i .1) ∙ sym (s .5))

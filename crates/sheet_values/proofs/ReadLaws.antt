@@ -3,10 +3,10 @@ use Prim.Native.Nat.{ℕ, suc, _≤_, _<_}
 use mathlib.Core.Path.{_≡_, refl, ap, sym, _∙_}
 use mathlib.Core.List.{List}
 use mathlib.Core.Bool.{Bool, true, false, not, _&&_}
-use native.Mathlib.Omega.{arith}
 use lib.Dec.{ltb, leb, eqb, leb·suc-suc}
-use borrow.Author.Tests.{lt-ltb, le-ltb, ltb-true, ltb-false, eq-eqb, ne-eqb}
+use borrow.Author.Tests.{lt-ltb, le-ltb, ltb-true, eq-eqb, ne-eqb}
 use Rattle.lists.specs.Lists.{pick}
+use Rattle.varint.proofs.VarintLaws.{number-got}
 use Rattle.varint.specs.Varint.{Read, got, refuse, after, readNumber, number, judged}
 use Rattle.sheet.specs.Reader.{readMark}
 
@@ -27,32 +27,8 @@ module _ (bs : List ℕ) (why end : ℕ) where
   number-not e = rw (← e)
 
 -- a number that passed its test
-fine-below : (why end : ℕ) (r : Read ℕ) {x : ℕ} {rest : List ℕ} → got x rest ≡ after r (judged why (under end)) → x < end
-unfolding after judged
-fine-below why end (got y bs) e = go (ltb y end) refl e
-  where
-    go : {x : ℕ} {rest : List ℕ} (t : Bool) → ltb y end ≡ t → got x rest ≡ pick t (got y bs) (refuse why) → x < end
-    go {x} true p q = let z : x ≡ y = cc in omega (arith, ltb-true y end p)
-    go false p q = absurd (let z : _≡_ {A = ℕ} 0 1 = cc in omega arith)
-fine-below why end (refuse n) e = absurd (let z : _≡_ {A = ℕ} 0 1 = cc in omega arith)
-
 pub number-below : (why end : ℕ) (bs : List ℕ) {x : ℕ} {rest : List ℕ} → got x rest ≡ number why (under end) bs → x < end
-unfolding number
-number-below why end bs e = fine-below why end (readNumber bs) e
-
--- what a wider test refuses, a narrower one refuses too
-past-after : (why j k : ℕ) → j ≤ k → (r : Read ℕ) {e : ℕ} → refuse e ≡ after r (judged why (under k)) → refuse e ≡ after r (judged why (under j))
-unfolding after judged
-past-after why j k h (got y bs) p = go (ltb y k) refl p
-  where
-    go : {e : ℕ} (t : Bool) → ltb y k ≡ t → refuse e ≡ pick t (got y bs) (refuse why) → refuse e ≡ pick (ltb y j) (got y bs) (refuse why)
-    go true q z = absurd (let w : _≡_ {A = ℕ} 0 1 = cc in omega arith)
-    go false q z = rw (le-ltb y j (omega (arith, ltb-false y k q))) z
-past-after why j k h (refuse n) p = p
-
-pub number-past : (why j k : ℕ) → j ≤ k → (bs : List ℕ) {e : ℕ} → refuse e ≡ number why (under k) bs → refuse e ≡ number why (under j) bs
-unfolding number
-number-past why j k h bs p = past-after why j k h (readNumber bs) p
+number-below why end bs {x} {rest} e = ltb-true x end (number-got why (under end) bs x rest (sym e) .0)
 
 -- two tests in turn are one
 after-and :

@@ -6,7 +6,7 @@ use native.Mathlib.Omega.{arith}
 use lib.ListN.{drop}
 use Rattle.sheet.specs.Reader.{readMark}
 use Rattle.sheet_values.specs.Values.{judgedOf}
-use Rattle.sheet_values.proofs.ReadLaws.{number-below, number-past, mark-number}
+use Rattle.sheet_values.proofs.ReadLaws.{number-below, mark-number}
 use Rattle.numbers.proofs.SeveralLaws.{Filling, start, more, stops, done, plain, plain-kept, plain-stored}
 use Rattle.sheet_values.proofs.marks_in.Statement.{statement}
 use Rattle.sheet_values.proofs.marks_in.Tie as tie
@@ -30,7 +30,7 @@ same-length : tie.Need-same-length Inv-loop μ-loop
 same-length c = plain-kept (c .before .before .before .before .before .loop .inv) (omega arith)
 
 returns : tie.Need-returns Inv-loop μ-loop
-returns c = stops (c .before .before .before .before .before .loop .inv) (c .before .before .before .before .loop-test .taken) (number-past _ _ _ (omega arith) _ (ap (judgedOf _) (sym (c .before .why .given .1)) ∙ c .before .before .before .judged-at .ensures .0) ∙ sym (mark-number _))
+returns c = stops (c .before .before .before .before .before .loop .inv) (c .before .before .before .before .loop-test .taken) (ap (judgedOf _) (sym (c .before .why .given .1)) ∙ c .before .before .before .judged-at .ensures .0 ∙ sym (mark-number _))
 
 enum-known-mark : tie.Need-enum-known-mark Inv-loop μ-loop
 enum-known-mark c = search needs
