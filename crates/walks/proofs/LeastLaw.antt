@@ -1,6 +1,6 @@
 -- The law of `least`: it is the least length over the walks of any number of arcs. Assumes nothing.
 use Prim.Native.Nat.{ℕ, zero, suc, _+_, _*_, _≤_, _<_, min}
-use mathlib.Core.Path.{_≡_, refl, sym, ap, _∙_, subst, fun-ext}
+use mathlib.Core.Path.{_≡_, refl, sym, ap, _∙_, subst}
 use mathlib.Core.Logic.{_⊎_, inl, inr}
 use mathlib.Core.Bool.{Bool, true, false, not, _&&_, _||_, false≢true}
 use mathlib.Core.List.{List, [], _∷_, _++_, map}
@@ -19,39 +19,24 @@ use Rattle.walks.specs.Lengths.{Least, none, some, lesser}
 use Rattle.walks.specs.Walk.{Walk}
 
 -- the goals that are not among the items
-unfoldable pub left : List ℕ → List ℕ → List ℕ
+unfoldable left : List ℕ → List ℕ → List ℕ
 left its gs = keep (λ g. not (member g its)) gs
 
-add-add : (s t : Bool) (f : ℕ → Bool) (x : ℕ) (xs ys : List ℕ) → f x ≡ t → keep f xs ≡ ys → keep f (add s x xs) ≡ add (s && t) x ys
-unfolding add keep
-add-add true t f x xs ys p q = rw (p, q)
-add-add false t f x xs ys p q = q
-
-keep-keep : (f g : ℕ → Bool) (xs : List ℕ) → keep f (keep g xs) ≡ keep (λ x. g x && f x) xs
-unfolding keep
-keep-keep f g [] = refl
-keep-keep f g (x ∷ xs) = add-add (g x) (f x) f x (keep g xs) (keep (λ x. g x && f x) xs) refl (keep-keep f g xs)
-
-keep-all : (xs : List ℕ) → keep (λ x. true) xs ≡ xs
-unfolding keep add
-keep-all [] = refl
-keep-all (x ∷ xs) = ap (x ∷_) (keep-all xs)
-
-not-or : (a b : Bool) → (not a && not b) ≡ not (a || b)
-not-or true b = refl
-not-or false b = refl
-
 left-cons : (x : ℕ) (its gs : List ℕ) → left its (without x gs) ≡ left (x ∷ its) gs
-unfolding left without member
-left-cons x its gs =
-    keep-keep (λ g. not (member g its)) (λ g. not (eqb g x)) gs
-    ∙ ap (λ (f : ℕ → Bool). keep f gs) (fun-ext (λ g. not-or (eqb g x) (member g its)))
+unfolding left without member keep add
+left-cons x its [] = refl
+left-cons x its (g ∷ gs) = go (eqb g x) (left-cons x its gs)
+  where
+    go : (t : Bool) → left its (without x gs) ≡ left (x ∷ its) gs → left its (add (not t) g (without x gs)) ≡ add (not (t || member g its)) g (left (x ∷ its) gs)
+    go true ih = ih
+    go false ih = ap (add (not (member g its)) g) ih
 
 left-none : (gs : List ℕ) → left [] gs ≡ gs
-unfolding left member
-left-none gs = keep-all gs
+unfolding left member keep add
+left-none [] = refl
+left-none (g ∷ gs) = ap (g ∷_) (left-none gs)
 
-pub rest-left : (G : Graph) (a : ℕ) (gs w : List ℕ) → rest G (without a gs) w ≡ left (items G a w) gs
+rest-left : (G : Graph) (a : ℕ) (gs w : List ℕ) → rest G (without a gs) w ≡ left (items G a w) gs
 unfolding items cross
 rest-left G a gs [] = sym (left-none (without a gs)) ∙ left-cons a [] gs
 rest-left G a gs (l ∷ w) =
@@ -73,7 +58,7 @@ unfolding keep every add
 none-keep f [] e = refl
 none-keep f (x ∷ xs) e = let s = and-true (f x) (every f xs) e in rw (s .0) (none-keep f xs (s .1))
 
-pub meets-rest : (G : Graph) (goals : List ℕ) (a : ℕ) (w : List ℕ) → meets G goals a w ≡ true → rest G (without a goals) w ≡ []
+meets-rest : (G : Graph) (goals : List ℕ) (a : ℕ) (w : List ℕ) → meets G goals a w ≡ true → rest G (without a goals) w ≡ []
 unfolding meets left
 meets-rest G goals a w e = rest-left G a goals w ∙ none-keep (λ g. member g (items G a w)) goals e
 
