@@ -57,10 +57,7 @@ distinct-keep f (x ∷ xs) d = distinct-add (f x) x (keep f xs) (absent-keep f x
 below-add : (b : Bool) (n x : ℕ) (xs : List ℕ) → eqb x n ≡ b → x < suc n → Below n xs → Below n (add (not b) x xs)
 unfolding add
 below-add true n x xs e h r = r
-below-add false n x xs e h r = let ne : x ≡ n → ⊥ = eqb-false x n e in (lt-of-ne x n ne h, r)
-  where
-    lt-of-ne : (x n : ℕ) → (x ≡ n → ⊥) → x < suc n → x < n
-    lt-of-ne x n ne h = omega arith
+below-add false n x xs e h r = let ne : x ≡ n → ⊥ = eqb-false x n e in (omega arith, r)
 
 below-without : (n : ℕ) (xs : List ℕ) → Below (suc n) xs → Below n (without n xs)
 unfolding without keep

@@ -39,8 +39,8 @@ mixed-closed : (i : ℕ) (marks R : List ℕ) → ((j : ℕ) → member j R ≡ 
 unfolding mixed
 mixed-closed i marks R h j e = ⊎-elim (λ q. and-true (ltb j i) (closedIn marks j) q .1) (h j) (or-true (ltb j i && closedIn marks j) (member j R) e)
 
-beside : (i j : ℕ) → j ≢ i → ltb j i ≡ ltb j (suc i)
-beside i j n = go (ltb j i) refl
+ltb-beside : (i j : ℕ) → j ≢ i → ltb j i ≡ ltb j (suc i)
+ltb-beside i j n = go (ltb j i) refl
   where
     go : (t : Bool) → ltb j i ≡ t → t ≡ ltb j (suc i)
     go true q = sym (lt-ltb j (suc i) (omega (arith, ltb-true j i q)))
@@ -55,7 +55,7 @@ module _ (i : ℕ) (marks R : List ℕ) where
     where
       go : (j : ℕ) → Dec (j ≡ i) → mixed i marks R j ≡ mixed (suc i) marks′ R′ j
       go j (yes q) = rw (q, le-ltb i i (omega arith), lt-ltb i (suc i) (omega arith)) here
-      go j (no q) = rw (beside i j q, others j q .0, others j q .1)
+      go j (no q) = rw (ltb-beside i j q, others j q .0, others j q .1)
 
   mixed-passed : closedIn marks i ≡ false → mixed i marks R ≡ mixed (suc i) marks R
   mixed-passed p = mixed-at marks R (rw p) (λ j n. (refl, refl))

@@ -54,35 +54,35 @@ unfolding readMark
 mark-number bs = number-most 11 2 bs
 
 -- Two different numbers below n and one of at most k, as the ends of an arc and its minutes are read, and source, target and limit.
-abbrev pub ends : {A : Type 0} → ℕ → ℕ → ℕ → ℕ → (ℕ → ℕ → ℕ → A) → List ℕ → Read A
-ends why last n k build bs =
+abbrev pub endsThen : {A : Type 0} → ℕ → ℕ → ℕ → ℕ → (ℕ → ℕ → ℕ → A) → List ℕ → Read A
+endsThen why last n k build bs =
     after (number why (under n) bs)
     (λ a bs₁. after (number why (λ x. under n x && not (eqb x a)) bs₁) (λ b bs₂. after (number last (λ x. leb x k) bs₂) (λ c rest. got (build a b c) rest)))
 
 module _ {A : Type 0} (why last n k : ℕ) (build : ℕ → ℕ → ℕ → A) (bs : List ℕ) where
-  pub first-not : {e : ℕ} → refuse e ≡ number why (under n) bs → refuse e ≡ ends why last n k build bs
+  pub first-not : {e : ℕ} → refuse e ≡ number why (under n) bs → refuse e ≡ endsThen why last n k build bs
   unfolding after
   first-not e = rw (← e)
 
   module _ {a : ℕ} {r₁ : List ℕ} (ea : got a r₁ ≡ number why (under n) bs) where
-    pub second-not : {e : ℕ} → refuse e ≡ number why (under n) r₁ → refuse e ≡ ends why last n k build bs
+    pub second-not : {e : ℕ} → refuse e ≡ number why (under n) r₁ → refuse e ≡ endsThen why last n k build bs
     unfolding after
     second-not e = rw (← ea, number-and why (under n) (λ x. not (eqb x a)) r₁, ← e)
 
     module _ {b : ℕ} {r₂ : List ℕ} (eb : got b r₂ ≡ number why (under n) r₁) where
-      pub second-same : b ≡ a → refuse why ≡ ends why last n k build bs
+      pub second-same : b ≡ a → refuse why ≡ endsThen why last n k build bs
       unfolding after judged
       second-same q = rw (← ea, number-and why (under n) (λ x. not (eqb x a)) r₁, ← eb, eq-eqb _ _ q)
 
       module _ (q : b ≡ a → ⊥) where
-        from-second : ends why last n k build bs ≡ after (number last (under (suc k)) r₂) (λ c rest. got (build a b c) rest)
+        from-second : endsThen why last n k build bs ≡ after (number last (under (suc k)) r₂) (λ c rest. got (build a b c) rest)
         unfolding after judged
         from-second = rw (← ea, number-and why (under n) (λ x. not (eqb x a)) r₁, ← eb, ne-eqb _ _ q, number-most last k r₂)
 
-        pub third-not : {e : ℕ} → refuse e ≡ number last (under (suc k)) r₂ → refuse e ≡ ends why last n k build bs
+        pub third-not : {e : ℕ} → refuse e ≡ number last (under (suc k)) r₂ → refuse e ≡ endsThen why last n k build bs
         unfolding after
         third-not e = sym (from-second ∙ rw (← e))
 
-        pub third-read : {c : ℕ} {r₃ : List ℕ} → got c r₃ ≡ number last (under (suc k)) r₂ → got (build a b c) r₃ ≡ ends why last n k build bs
+        pub third-read : {c : ℕ} {r₃ : List ℕ} → got c r₃ ≡ number last (under (suc k)) r₂ → got (build a b c) r₃ ≡ endsThen why last n k build bs
         unfolding after
         third-read e = sym (from-second ∙ rw (← e))

@@ -6,14 +6,14 @@ use mathlib.Core.List.{List}
 use Rattle.walks.specs.Graph.{Arc}
 use Rattle.sheet.specs.Reader.{arcMinutes, arcHead, readArc}
 use Rattle.sheet_values.specs.Values.{judgedOf}
-use Rattle.sheet_values.proofs.ReadLaws.{ends, first-not, second-not, second-same, third-not, third-read}
+use Rattle.sheet_values.proofs.ReadLaws.{endsThen, first-not, second-not, second-same, third-not, third-read}
 use Rattle.sheet_parts.proofs.arc_at.Statement.{statement}
 use Rattle.sheet_parts.proofs.arc_at.Tie as tie
 
 abbrev arc : ℕ → ℕ → ℕ → Arc
 arc t h w = record { tail = t; head = h; weight = w }
 
-read-ends : (n : ℕ) (bs : List ℕ) → ends 9 10 n 65535 arc bs ≡ readArc n bs
+read-ends : (n : ℕ) (bs : List ℕ) → endsThen 9 10 n 65535 arc bs ≡ readArc n bs
 unfolding readArc arcHead arcMinutes
 read-ends n bs = refl
 

@@ -7,14 +7,14 @@ use native.Mathlib.Omega.{arith}
 use Rattle.sheet.specs.declared.Header.{Header}
 use Rattle.sheet.specs.Reader.{headerLimit, headerTarget, headerSource}
 use Rattle.sheet_values.specs.Values.{judgedOf, nextOf}
-use Rattle.sheet_values.proofs.ReadLaws.{number-below, ends, first-not, second-not, second-same, third-not, third-read}
+use Rattle.sheet_values.proofs.ReadLaws.{number-below, endsThen, first-not, second-not, second-same, third-not, third-read}
 use Rattle.sheet_parts.proofs.header_ends.Statement.{statement}
 use Rattle.sheet_parts.proofs.header_ends.Tie as tie
 
 abbrev header : ℕ → ℕ → ℕ → ℕ → ℕ → Header
 header n m s t k = record { nodes = n; arcs = m; source = s; target = t; limit = k }
 
-read-ends : (n m : ℕ) (bs : List ℕ) → ends 7 8 n 1000000 (header n m) bs ≡ headerSource n m bs
+read-ends : (n m : ℕ) (bs : List ℕ) → endsThen 7 8 n 1000000 (header n m) bs ≡ headerSource n m bs
 unfolding headerSource headerTarget headerLimit
 read-ends n m bs = refl
 
