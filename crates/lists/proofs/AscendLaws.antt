@@ -1,7 +1,7 @@
 -- Ascending lists: entries kept from a span ascend, and what ascends has no repeats. Assumes nothing.
 use Prim.Native.Nat.{ℕ, zero, suc, _+_, _≤_, _<_}
 use mathlib.Core.Path.{_≡_, refl, sym, ap, _∙_}
-use mathlib.Core.Logic.{_⊎_, inl, inr}
+use mathlib.Core.Logic.{⊎-elim}
 use mathlib.Core.Bool.{Bool, true, false}
 use mathlib.Core.List.{List, [], _∷_, map}
 use native.Mathlib.Omega.{arith}
@@ -38,11 +38,8 @@ ascends-rising (x ∷ y ∷ ys) e =
 
 rising-member : (a : ℕ) (xs : List ℕ) → Rising a xs → (x : ℕ) → member x xs ≡ true → a ≤ x
 rising-member a [] r x m = absurd (member-none x m)
-rising-member a (y ∷ ys) r x m = go (member-cases x y ys m) (rising-member (suc y) ys (r .1) x)
-  where
-    go : (x ≡ y) ⊎ (member x ys ≡ true) → (member x ys ≡ true → suc y ≤ x) → a ≤ x
-    go (inl q) ih = omega (arith, r .0)
-    go (inr q) ih = omega (arith, r .0, ih q)
+rising-member a (y ∷ ys) r x m =
+    ⊎-elim (λ q. omega (arith, r .0)) (λ q. omega (arith, r .0, rising-member (suc y) ys (r .1) x q)) (member-cases x y ys m)
 
 pub rising-distinct : (a : ℕ) (xs : List ℕ) → Rising a xs → Distinct xs
 rising-distinct a [] r = tt
@@ -71,11 +68,9 @@ keep-ascends f k a = rising-ascends a (keep f (span k a)) (keep-rising f k a)
 pub span-member : (k a x : ℕ) → member x (span k a) ≡ true → (a ≤ x) × (x < a + k)
 unfolding span
 span-member zero a x e = absurd (member-none x e)
-span-member (suc k) a x e = go (member-cases x a (span k (suc a)) e) (span-member k (suc a) x)
-  where
-    go : (x ≡ a) ⊎ (member x (span k (suc a)) ≡ true) → (member x (span k (suc a)) ≡ true → (suc a ≤ x) × (x < suc a + k)) → (a ≤ x) × (x < a + suc k)
-    go (inl p) ih = (omega arith, omega arith)
-    go (inr m) ih = let i = ih m in (omega (arith, i .0), omega (arith, i .1))
+span-member (suc k) a x e =
+    ⊎-elim (λ p. (omega arith, omega arith)) (λ m. let i = span-member k (suc a) x m in (omega (arith, i .0), omega (arith, i .1)))
+    (member-cases x a (span k (suc a)) e)
 
 pub member-span : (k a x : ℕ) → a ≤ x → x < a + k → member x (span k a) ≡ true
 unfolding span

@@ -71,11 +71,8 @@ keep-member f x (y ∷ ys) m = go (f y) refl m (keep-member f x ys)
 pub every-at : (f : ℕ → Bool) (xs : List ℕ) (x : ℕ) → every f xs ≡ true → member x xs ≡ true → f x ≡ true
 unfolding every
 every-at f [] x e m = absurd (member-none x m)
-every-at f (y ∷ ys) x e m = go (member-cases x y ys m) (every-at f ys x (and-true (f y) (every f ys) e .1))
-  where
-    go : (x ≡ y) ⊎ (member x ys ≡ true) → (member x ys ≡ true → f x ≡ true) → f x ≡ true
-    go (inl q) ih = ap f q ∙ and-true (f y) (every f ys) e .0
-    go (inr q) ih = ih q
+every-at f (y ∷ ys) x e m =
+    let s = and-true (f y) (every f ys) e in ⊎-elim (λ q. ap f q ∙ s .0) (every-at f ys x (s .1)) (member-cases x y ys m)
 
 pub every-all : (f : ℕ → Bool) (xs : List ℕ) → ((x : ℕ) → member x xs ≡ true → f x ≡ true) → every f xs ≡ true
 unfolding every

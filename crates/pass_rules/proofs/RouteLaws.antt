@@ -2,7 +2,7 @@
 -- marks that the pass leaves, more is asked. Assumes nothing.
 use Prim.Native.Nat.{ℕ, suc, _+_, _≤_, _<_}
 use mathlib.Core.Path.{_≡_, sym, ap, _∙_}
-use mathlib.Core.Logic.{_⊎_, inl, inr}
+use mathlib.Core.Logic.{_⊎_, inl, inr, ⊎-elim}
 use mathlib.Core.Bool.{Bool, true, false, not, _&&_, true≢false}
 use mathlib.Core.List.{List, []}
 use native.Mathlib.Omega.{arith}
@@ -11,9 +11,9 @@ use lib.Dec.{ltb}
 use borrow.Author.Tests.{ltb-true, ltb-false}
 use Rattle.lists.proofs.AscendLaws.{span-member}
 use Rattle.lists.proofs.MemberLaws.{member-none, member-keep, keep-member, every-all}
-use Rattle.lists.proofs.TestLaws.{true-or-false, and-true, true-and, false-of}
+use Rattle.lists.proofs.TestLaws.{true-or-false, and-true, true-and, true-of, false-of}
 use Rattle.lists.specs.Lists.{member}
-use Rattle.sheet.proofs.MarkLaws.{Required, required-is, is-item, item-is, ends-mandatory, forbidden-mark, is-mandatory, mandatory-mark}
+use Rattle.sheet.proofs.MarkLaws.{required-is, is-item, item-is, ends-mandatory, forbidden-mark, is-mandatory, mandatory-mark}
 use Rattle.sheet.specs.Sheet.{Sheet, markOf, isOpen, isMandatory, isForbidden, allItems, allArcs, endsMandatory, required}
 use Rattle.walks.proofs.FitsLaws.{fit-narrower}
 use Rattle.walks.proofs.Join.{meets-all, meets-at, end-met, fit-clear, first-item, last-item}
@@ -48,11 +48,7 @@ module _ (S : Sheet) (w : List ℕ) (R : Route S w) where
       end-met (S .graph) (isForbidden S) (S .target) (f .0) p (S .source) w walk (mandatory-met (S .graph .nodes + f .0) (omega arith) (f .2)) (f .3)
 
   required-met : (p : ℕ) → member p (required S) ≡ true → member p met ≡ true
-  required-met p m = let r = required-is S p m in go r (r .demanded)
-    where
-      go : Required S p → (isMandatory S p ≡ true) ⊎ (endsMandatory S p (allArcs (S .graph)) ≡ true) → member p met ≡ true
-      go r (inl q) = mandatory-met p (omega (arith, r .node)) q
-      go r (inr q) = arc-end-met p q
+  required-met p m = let r = required-is S p m in ⊎-elim (mandatory-met p (omega (arith, r .node))) (arc-end-met p) (r .demanded)
 
   some : SomeWalkOn S (mandatory S)
   some = record { way = w; fitting = R .obeys; short = R .short }
@@ -112,13 +108,12 @@ module _ (S : Sheet) where
   -- past the items there is no mark
   left-item : (i m : ℕ) → markOf left i ≡ suc m → i < itemCount (S .graph)
   unfolding left markOf
-  left-item i m e = go (true-or-false (ltb i (itemCount (S .graph))))
+  left-item i m e = ltb-true i (itemCount (S .graph)) (true-of (ltb i (itemCount (S .graph))) past)
     where
-      go : (ltb i (itemCount (S .graph)) ≡ true) ⊎ (ltb i (itemCount (S .graph)) ≡ false) → i < itemCount (S .graph)
-      go (inl q) = ltb-true i (itemCount (S .graph)) q
-      go (inr q) =
+      past : ltb i (itemCount (S .graph)) ≡ false → ⊥
+      past q =
           let h : length (newMarks S) ≤ i = omega (arith, ltb-false i (itemCount (S .graph)) q, new-marks-size S) in
-          absurd (omega (arith, List·getD-eq-default (newMarks S) 0 h, e))
+          omega (arith, List·getD-eq-default (newMarks S) 0 h, e)
 
   pub route-left : (w : List ℕ) → Route S w → Route (marked S (newMarks S)) w
   unfolding left mandatory

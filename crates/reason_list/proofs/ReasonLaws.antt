@@ -99,11 +99,9 @@ module _ (G : Graph) (s t k : ℕ) (goals : List ℕ) where
   among-turn : (c i : ℕ) (marks : List ℕ) {R : List ℕ} → Turn c i marks R
       → ((marks′ : List ℕ) → Among c (suc i) marks′ (greedy G s t k goals c (suc i) marks′)) → Among (suc c) i marks R
   among-turn c i marks (passed p) ih j m = let a = ih marks j m in (omega (arith, a .0), omega (arith, a .1), a .2)
-  among-turn c i marks (listed p q) ih j m = go (member-cases j i (greedy G s t k goals c (suc i) marks) m)
-    where
-      go : (j ≡ i) ⊎ (member j (greedy G s t k goals c (suc i) marks) ≡ true) → (i ≤ j) × (j < i + suc c) × (closedIn marks j ≡ true)
-      go (inl e) = (omega arith, omega arith, rw e p)
-      go (inr m′) = let a = ih marks j m′ in (omega (arith, a .0), omega (arith, a .1), a .2)
+  among-turn c i marks (listed p q) ih j m =
+      ⊎-elim (λ e. (omega arith, omega arith, rw e p)) (λ m′. let a = ih marks j m′ in (omega (arith, a .0), omega (arith, a .1), a .2))
+      (member-cases j i (greedy G s t k goals c (suc i) marks) m)
   among-turn c i marks (opened p q) ih j m =
       let a = ih (set marks i 0) j m in (omega (arith, a .0), omega (arith, a .1), open-closed marks i j (a .2) .0)
 

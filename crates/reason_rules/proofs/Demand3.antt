@@ -2,7 +2,7 @@
 -- by itself (`reasons-valid`), so it does so wherever it is shut and the limit is no greater. Assumes nothing.
 use Prim.Native.Nat.{ℕ, zero, suc, _≤_, _<_}
 use mathlib.Core.Path.{_≡_, refl, sym, ap, _∙_, subst}
-use mathlib.Core.Logic.{_⊎_, inl, inr}
+use mathlib.Core.Logic.{_⊎_, inl, inr, ⊎-elim}
 use mathlib.Core.Bool.{true, false, not, true≢false}
 use mathlib.Core.List.{List, [], _∷_}
 use native.Mathlib.Omega.{arith}
@@ -99,16 +99,10 @@ verdict-goals S n = go (verdict S) (verdict-is S) n
 -- where a round stands, everything demanded is met
 stands-meets : (T : Sheet) {goals : List ℕ} → Stands T → Goals (T .graph) goals → ((g : ℕ) → member g goals ≡ true → Demanded T g)
     → fitsSheet T goals ≡ true
-stands-meets T {goals} z (nodes below) d = fits-fewer T (demandedNodes T) goals (λ g m. demanded g (below g m) (d g m)) (demanded-met T (z .together))
-  where
-    demanded : (g : ℕ) → g < T .graph .nodes → Demanded T g → member g (demandedNodes T) ≡ true
-    demanded g h (inl q) = is-demanded T g h (inl q)
-    demanded g h (inr q) = required-demanded T g q
-stands-meets T z (alone i h) d = go (d i (member-head i []))
-  where
-    go : Demanded T i → fitsSheet T (i ∷ []) ≡ true
-    go (inl m) = z .each i h m
-    go (inr m) = fits-fewer T (required T) (i ∷ []) (λ j q. rw (member-one j i q) m) (z .together)
+stands-meets T {goals} z (nodes below) d =
+    fits-fewer T (demandedNodes T) goals (λ g m. ⊎-elim (λ q. is-demanded T g (below g m) (inl q)) (required-demanded T g) (d g m)) (demanded-met T (z .together))
+stands-meets T z (alone i h) d =
+    ⊎-elim (z .each i h) (λ m. fits-fewer T (required T) (i ∷ []) (λ j q. rw (member-one j i q) m) (z .together)) (d i (member-head i []))
 
 -- Demand 3's step: a list that blocks some goals on a sheet has the pass refuse every later sheet's round where these goals are demanded.
 pub blocks-again : (S : Sheet) (list goals later : List ℕ) (T : Sheet) → Blocks S list goals → Goals (S .graph) goals → Later S list later T

@@ -71,12 +71,8 @@ pub others-without : (gs : List ℕ) (g : ℕ) → Others gs g (without g gs)
 unfolding without
 others-without gs g = record {
   fewer = λ x m. let k = keep-member (λ x. not (eqb x g)) x gs m in (k .0, λ q. eqb-false x g (not-true (eqb x g) (k .1)) q);
-  more = λ x m. go x m (true-or-false (eqb x g));
+  more = λ x m. ⊎-elim (λ q. inl (eqb-true x g q)) (λ q. inr (member-keep (λ x. not (eqb x g)) x gs m (rw q))) (true-or-false (eqb x g));
 }
-  where
-    go : (x : ℕ) → member x gs ≡ true → (eqb x g ≡ true) ⊎ (eqb x g ≡ false) → (x ≡ g) ⊎ (member x (without g gs) ≡ true)
-    go x m (inl q) = inl (eqb-true x g q)
-    go x m (inr q) = inr (member-keep (λ x. not (eqb x g)) x gs m (rw q))
 
 empty : (xs : List ℕ) → (xs ≡ []) ⊎ (xs ≡ [] → ⊥)
 empty [] = inl refl
@@ -362,21 +358,12 @@ last-goal G closed gs a b i n =
     one : (fs : List ℕ) → ((g : ℕ) → member g fs ≡ true → member g gs ≡ true) → (k : ℕ) → anyLast G closed a b gs fs ≡ some k
         → (g : ℕ) × (hs : List ℕ) × (member g gs ≡ true) × Others gs g hs × (lastly G closed a b hs g ≡ some k)
     one [] s k e = impossible e
-    one (f ∷ fs) s k e = go (lesser-one (lastly G closed a b (without f gs) f) (anyLast G closed a b gs fs) k e) (one fs (λ g h. s g (member-tail g f fs h)) k)
-      where
-        go : (lastly G closed a b (without f gs) f ≡ some k) ⊎ (anyLast G closed a b gs fs ≡ some k)
-            → (anyLast G closed a b gs fs ≡ some k → (g : ℕ) × (hs : List ℕ) × (member g gs ≡ true) × Others gs g hs × (lastly G closed a b hs g ≡ some k))
-            → (g : ℕ) × (hs : List ℕ) × (member g gs ≡ true) × Others gs g hs × (lastly G closed a b hs g ≡ some k)
-        go (inl q) ih = (f, without f gs, s f (member-head f fs), others-without gs f, q)
-        go (inr q) ih = ih q
+    one (f ∷ fs) s k e =
+        ⊎-elim (λ q. (f, without f gs, s f (member-head f fs), others-without gs f, q)) (one fs (λ g h. s g (member-tail g f fs h)) k)
+        (lesser-one (lastly G closed a b (without f gs) f) (anyLast G closed a b gs fs) k e)
 
     all : (fs : List ℕ) (g : ℕ) → member g fs ≡ true → Under (anyLast G closed a b gs fs) (lastly G closed a b (without g gs) g)
     all [] g h = absurd (member-none g h)
-    all (f ∷ fs) g h = go (member-cases g f fs h) (all fs g)
-      where
-        go : (g ≡ f) ⊎ (member g fs ≡ true) → (member g fs ≡ true → Under (anyLast G closed a b gs fs) (lastly G closed a b (without g gs) g))
-            → Under (anyLast G closed a b gs (f ∷ fs)) (lastly G closed a b (without g gs) g)
-        go (inl q) ih =
-            rw q (under-lesser (lastly G closed a b (without f gs) f) (anyLast G closed a b gs fs) (lastly G closed a b (without f gs) f)
-            (inl (under-self (lastly G closed a b (without f gs) f))))
-        go (inr q) ih = under-lesser (lastly G closed a b (without f gs) f) (anyLast G closed a b gs fs) (lastly G closed a b (without g gs) g) (inr (ih q))
+    all (f ∷ fs) g h =
+        under-lesser (lastly G closed a b (without f gs) f) (anyLast G closed a b gs fs) (lastly G closed a b (without g gs) g)
+        (⊎-elim (λ q. inl (rw q (under-self (lastly G closed a b (without f gs) f)))) (λ q. inr (all fs g q)) (member-cases g f fs h))
