@@ -76,17 +76,15 @@ module _ (S : Sheet) (w : List ℕ) (R : Route S w) where
   -- and it meets each item that ends mandatory
   pub route-meets : (i : ℕ) → i < itemCount (S .graph) → newMark S i ≡ 1 → member i (items (S .graph) (S .source) w) ≡ true
   unfolding met arcItem
-  route-meets i h e = go (true-or-false (isOpen S i))
+  route-meets i h e =
+      ⊎-elim (λ o. forced (forced-is S i (forced-mark S i o e))) (λ o. mandatory-met i h (is-mandatory S i (sym (other-mark S i o) ∙ e)))
+      (true-or-false (isOpen S i))
     where
       forced : Forced S i → member i met ≡ true
       forced (is-source q) = rw q (first-item (S .graph) (S .source) w)
       forced (is-target q) = rw q (last-item (S .graph) (isForbidden S) (S .source) (S .target) w walk)
       forced (ends-arc l h m q) =
           end-met (S .graph) (isForbidden S) (S .target) l i (S .source) w walk (mandatory-met (S .graph .nodes + l) (omega arith) m) q
-
-      go : (isOpen S i ≡ true) ⊎ (isOpen S i ≡ false) → member i met ≡ true
-      go (inl o) = forced (forced-is S i (forced-mark S i o e))
-      go (inr o) = mandatory-met i h (is-mandatory S i (sym (other-mark S i o) ∙ e))
 
 -- a walk that fits still does where it meets nothing closed and all that is asked
 fit-again : (G : Graph) (c c′ : ℕ → Bool) (gs gs′ : List ℕ) (a b : ℕ) (w : List ℕ) → fit G c gs a b w ≡ true

@@ -3,7 +3,7 @@
 -- turn (`Turn`) changes it. Assumes nothing.
 use Prim.Native.Nat.{ℕ, zero, suc, _+_, _≤_, _<_}
 use mathlib.Core.Path.{_≡_, refl, sym, ap, _∙_, fun-ext}
-use mathlib.Core.Logic.{_⊎_, inl, inr, ⊎-elim, _≢_}
+use mathlib.Core.Logic.{_⊎_, ⊎-elim, _≢_}
 use mathlib.Core.Bool.{Bool, true, false, not, _&&_, _||_, true≢false}
 use mathlib.Core.List.{List, [], _∷_}
 use native.Mathlib.Omega.{arith}
@@ -156,7 +156,9 @@ module _ (G : Graph) (s t k : ℕ) (goals : List ℕ) where
   minimal-turn : (c i : ℕ) (marks : List ℕ) {R : List ℕ} → Turn c i marks R
       → ((marks′ : List ℕ) → Minimal (suc i) marks′ (greedy G s t k goals c (suc i) marks′)) → Minimal i marks R
   minimal-turn c i marks (passed p) ih r m = rw (mixed-passed i marks (greedy G s t k goals c (suc i) marks) p) (ih marks r m)
-  minimal-turn c i marks (listed p q) ih r m = rw (mixed-listed i marks R p) (go (member-cases r i R m))
+  minimal-turn c i marks (listed p q) ih r m =
+      rw (mixed-listed i marks R p)
+      (⊎-elim (λ e. rw e (fits-less (closedIn (set marks i 0)) (but (mixed (suc i) marks R) i) fewer q)) (ih marks r) (member-cases r i R m))
     where
       R : List ℕ
       R = greedy G s t k goals c (suc i) marks
@@ -166,10 +168,6 @@ module _ (G : Graph) (s t k : ℕ) (goals : List ℕ) where
       fewer j b x =
           let a = but-cases (mixed (suc i) marks R) i j x in
           open-other marks i j (a .1) ∙ mixed-closed (suc i) marks R (λ j m. among c (suc i) marks j m .2) j (a .0)
-
-      go : (r ≡ i) ⊎ (member r R ≡ true) → fits G s t k (but (mixed (suc i) marks R) r) goals ≡ true
-      go (inl e) = rw e (fits-less (closedIn (set marks i 0)) (but (mixed (suc i) marks R) i) fewer q)
-      go (inr m) = ih marks r m
   minimal-turn c i marks (opened p q) ih r m = rw (mixed-opened i marks (greedy G s t k goals c (suc i) (set marks i 0))) (ih (set marks i 0) r m)
 
   minimal : (c i : ℕ) (marks : List ℕ) → Minimal i marks (greedy G s t k goals c i marks)

@@ -1,7 +1,7 @@
 -- Required nodes ascend, are nodes, and are mandatory or end a mandatory arc. Assumes nothing.
 use Prim.Native.Nat.{ℕ, _<_}
 use mathlib.Core.Path.{_≡_, sym, ap, _∙_}
-use mathlib.Core.Logic.{_⊎_, inl, inr, _↔_}
+use mathlib.Core.Logic.{_⊎_, inl, inr, ⊎-elim, _↔_}
 use mathlib.Core.Bool.{Bool, true, not, _&&_, _||_, false≢true}
 use mathlib.Core.List.{List, [], _∷_}
 use native.Mathlib.Omega.{arith}
@@ -10,7 +10,7 @@ use borrow.Author.Tests.{eqb-true, eqb-false, eq-eqb, ne-eqb}
 use Rattle.lists.proofs.AscendLaws.{keep-ascends, span-member, member-span}
 use Rattle.lists.proofs.MemberLaws.{member-head, member-tail, member-cases, member-none, keep-member, member-keep}
 use Rattle.lists.proofs.Pigeonhole.{Below, below-all}
-use Rattle.lists.proofs.TestLaws.{and-true, true-and, or-true, true-or, or-of, not-true}
+use Rattle.lists.proofs.TestLaws.{and-true, true-and, or-true, or-of, not-true}
 use Rattle.lists.specs.Lists.{member, ascends}
 use Rattle.walks.specs.Graph.{Graph, tailOf, headOf, arcItem, itemCount}
 use Rattle.sheet.specs.Sheet.{isForbidden, Sheet, markOf, isOpen, isMandatory, allItems, allNodes, allArcs, endsMandatory, isRequired, required}
@@ -29,41 +29,29 @@ pub ends-mandatory : (S : Sheet) (p : ℕ) (ls : List ℕ) → endsMandatory S p
 unfolding endsMandatory
 ends-mandatory S p [] e = absurd (false≢true e)
 ends-mandatory S p (l ∷ ls) e =
-    go
-    (or-true (isMandatory S (arcItem (S .graph) l) && (eqb (tailOf (S .graph) l) p || eqb (headOf (S .graph) l) p)) (endsMandatory S p ls) e)
-    (ends-mandatory S p ls)
-  where
-    Found : List ℕ → Type 0
-    Found ks = (l : ℕ) × (member l ks ≡ true) × (isMandatory S (arcItem (S .graph) l) ≡ true) × ((tailOf (S .graph) l ≡ p) ⊎ (headOf (S .graph) l ≡ p))
-
-    end : (eqb (tailOf (S .graph) l) p ≡ true) ⊎ (eqb (headOf (S .graph) l) p ≡ true) → (tailOf (S .graph) l ≡ p) ⊎ (headOf (S .graph) l ≡ p)
-    end (inl q) = inl (eqb-true (tailOf (S .graph) l) p q)
-    end (inr q) = inr (eqb-true (headOf (S .graph) l) p q)
-
-    go : ((isMandatory S (arcItem (S .graph) l) && (eqb (tailOf (S .graph) l) p || eqb (headOf (S .graph) l) p)) ≡ true) ⊎ (endsMandatory S p ls ≡ true)
-        → (endsMandatory S p ls ≡ true → Found ls) → Found (l ∷ ls)
-    go (inl q) ih =
-        let s = and-true (isMandatory S (arcItem (S .graph) l)) (eqb (tailOf (S .graph) l) p || eqb (headOf (S .graph) l) p) q in
-        (l, member-head l ls, s .0, end (or-true (eqb (tailOf (S .graph) l) p) (eqb (headOf (S .graph) l) p) (s .1)))
-    go (inr q) ih = let f = ih q in (f .0, member-tail (f .0) l ls (f .1), f .2, f .3)
+    let t = tailOf (S .graph) l in
+    let h = headOf (S .graph) l in
+    let i = arcItem (S .graph) l in
+    ⊎-elim
+    (λ q.
+    let s = and-true (isMandatory S i) (eqb t p || eqb h p) q in
+    (l, member-head l ls, s .0, ⊎-elim (λ r. inl (eqb-true t p r)) (λ r. inr (eqb-true h p r)) (or-true (eqb t p) (eqb h p) (s .1))))
+    (λ q. let f = ends-mandatory S p ls q in (f .0, member-tail (f .0) l ls (f .1), f .2, f .3))
+    (or-true (isMandatory S i && (eqb t p || eqb h p)) (endsMandatory S p ls) e)
 
 -- and the other way: a mandatory arc of the list makes its ends such nodes
 pub is-end : (S : Sheet) (p l : ℕ) (ls : List ℕ) → member l ls ≡ true → isMandatory S (arcItem (S .graph) l) ≡ true
     → (tailOf (S .graph) l ≡ p) ⊎ (headOf (S .graph) l ≡ p) → endsMandatory S p ls ≡ true
 unfolding endsMandatory
 is-end S p l [] h m e = absurd (member-none l h)
-is-end S p l (k ∷ ls) h m e = go (member-cases l k ls h) (λ h. is-end S p l ls h m e)
+is-end S p l (k ∷ ls) h m e =
+    or-of (ends k) (endsMandatory S p ls) (⊎-elim (λ q. inl (ap ends (sym q) ∙ true-and m end)) (λ q. inr (is-end S p l ls q m e)) (member-cases l k ls h))
   where
-    end : (tailOf (S .graph) l ≡ p) ⊎ (headOf (S .graph) l ≡ p) → (eqb (tailOf (S .graph) l) p || eqb (headOf (S .graph) l) p) ≡ true
-    end (inl q) = rw (eq-eqb (tailOf (S .graph) l) p q)
-    end (inr q) = true-or (eqb (tailOf (S .graph) l) p) (eqb (headOf (S .graph) l) p) (eq-eqb (headOf (S .graph) l) p q)
+    ends : ℕ → Bool
+    ends k = isMandatory S (arcItem (S .graph) k) && (eqb (tailOf (S .graph) k) p || eqb (headOf (S .graph) k) p)
 
-    here : ℕ → Bool
-    here k = isMandatory S (arcItem (S .graph) k) && (eqb (tailOf (S .graph) k) p || eqb (headOf (S .graph) k) p)
-
-    go : (l ≡ k) ⊎ (member l ls ≡ true) → (member l ls ≡ true → endsMandatory S p ls ≡ true) → (here k || endsMandatory S p ls) ≡ true
-    go (inl q) ih = let t : here k ≡ true = ap here (sym q) ∙ true-and m (end e) in rw t
-    go (inr q) ih = true-or (here k) (endsMandatory S p ls) (ih q)
+    end : (eqb (tailOf (S .graph) l) p || eqb (headOf (S .graph) l) p) ≡ true
+    end = or-of _ _ (⊎-elim (λ q. inl (eq-eqb (tailOf (S .graph) l) p q)) (λ q. inr (eq-eqb (headOf (S .graph) l) p q)) e)
 
 -- required nodes ascend
 pub required-ascend : (S : Sheet) → ascends (required S) ≡ true

@@ -148,13 +148,9 @@ module _ (G : Graph) (closed : ℕ → Bool) (b : ℕ) where
         own = P .own;
         own-is = P .own-is;
         total = omega (arith, P .total);
-        met = λ x q n. go x n (all x q);
+        met = λ x q n.
+            ⊎-elim (λ e. rw e (first-item G a (l ∷ P .to))) (⊎-elim (λ e. rw e (first-arc G l a (P .to))) (λ m. items-later G x a l (P .to) (P .met x m n))) (all x q);
       }
-    where
-      go : (x : ℕ) → (x ≡ P .goal → ⊥) → (x ≡ a) ⊎ ((x ≡ arcItem G l) ⊎ (member x hs ≡ true)) → member x (items G a (l ∷ P .to)) ≡ true
-      go x n (inl e) = rw e (first-item G a (l ∷ P .to))
-      go x n (inr (inl e)) = rw e (first-arc G l a (P .to))
-      go x n (inr (inr m)) = items-later G x a l (P .to) (P .met x m n)
 
   part : (w : List ℕ) (a : ℕ) (gs : List ℕ) → Walk G closed a b w → meets G gs a w ≡ true → (gs ≡ [] → ⊥) → Parted a gs (len G w)
   unfolding items

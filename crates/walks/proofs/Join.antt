@@ -59,13 +59,10 @@ module _ (G : Graph) (closed : ℕ → Bool) where
   pub items-left : (g a p : ℕ) (u v : List ℕ) → Walk G closed a p u → member g (items G a u) ≡ true → member g (items G a (u ++ v)) ≡ true
   unfolding items
   items-left g a p [] v U e = rw (member-one g a e) (first-item G a v)
-  items-left g a p (l ∷ u) v U e = go (items-cases G g a l u e) (items-left g (headOf G l) p u v (U .1))
-    where
-      go : (g ≡ a) ⊎ ((g ≡ arcItem G l) ⊎ (member g (items G (headOf G l) u) ≡ true))
-          → (member g (items G (headOf G l) u) ≡ true → member g (items G (headOf G l) (u ++ v)) ≡ true) → member g (items G a (l ∷ (u ++ v))) ≡ true
-      go (inl q) ih = rw q (first-item G a (l ∷ (u ++ v)))
-      go (inr (inl q)) ih = rw q (first-arc G l a (u ++ v))
-      go (inr (inr q)) ih = items-later G g a l (u ++ v) (ih q)
+  items-left g a p (l ∷ u) v U e =
+      ⊎-elim (λ q. rw q (first-item G a (l ∷ (u ++ v))))
+      (⊎-elim (λ q. rw q (first-arc G l a (u ++ v))) (λ q. items-later G g a l (u ++ v) (items-left g (headOf G l) p u v (U .1) q)))
+      (items-cases G g a l u e)
 
   pub items-right : (g a p : ℕ) (u v : List ℕ) → Walk G closed a p u → member g (items G p v) ≡ true → member g (items G a (u ++ v)) ≡ true
   items-right g a p [] v U e = subst (λ (x : ℕ). member g (items G x v) ≡ true) (sym (U .there)) e
