@@ -1,4 +1,4 @@
--- Laws of lines: a number's digits by its last one, and rows and words as they grow. Assumes nothing.
+-- Laws of lines: a number's digits by its last one, rows and words as written entry by entry, and how long a line is. Assumes nothing.
 use Prim.Native.Nat.{ℕ, zero, suc, _+_, _*_, _/_, _%_, _≤_, _<_}
 use mathlib.Core.Path.{_≡_, refl, ap, sym, _∙_}
 use mathlib.Core.List.{List, [], _∷_, _++_}
