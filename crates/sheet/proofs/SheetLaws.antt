@@ -1,11 +1,11 @@
 -- What holds of a sheet that was read: each number passed its test. And what 12 and 13 say. Assumes nothing.
 use Prim.Native.Nat.{ℕ, zero, suc, _+_, _≤_, _<_}
 use mathlib.Core.Path.{_≡_, refl, sym, ap, _∙_, subst}
-use mathlib.Core.Bool.{Bool, true, false, not}
+use mathlib.Core.Bool.{Bool, true, false}
 use mathlib.Core.List.{List, [], _∷_}
 use native.Mathlib.Omega.{arith}
 use lib.ListN.{length, getD}
-use lib.Dec.{eqb, leb, ltb}
+use lib.Dec.{leb}
 use borrow.Author.Tests.{eqb-false, ltb-true, leb-true, le-leb, lt-leb}
 use Rattle.lists.proofs.TestLaws.{and-true, not-true}
 use Rattle.lists.specs.Lists.{pick}
@@ -14,7 +14,7 @@ use Rattle.varint.specs.Varint.{Read, got, refuse, after, number, several}
 use Rattle.walks.specs.Graph.{Graph, Arc, noArc, tailOf, headOf, weightOf}
 use Rattle.sheet.specs.Good.{Good, GoodArc, All}
 use Rattle.sheet.specs.declared.Header.{Header}
-use Rattle.sheet.specs.Reader.{isNodeCount, isArcCount, isNode, isOther, isLimit, isMinutes, isMark, headerLimit, headerTarget, headerSource, headerArcs, readHeader, arcMinutes, arcHead, readArc, readMark, readMarks, readArcs, readSheet, complete, taken}
+use Rattle.sheet.specs.Reader.{isNodeCount, isArcCount, isLimit, isMinutes, isMark, headerLimit, headerTarget, headerSource, headerArcs, readHeader, arcMinutes, arcHead, readArc, readMark, readMarks, readArcs, readSheet, complete, taken}
 use Rattle.sheet.specs.Sheet.{Sheet, markOf, required}
 
 pub several-got : {A : Type 0} (P : A → Type 0) (f : List ℕ → Read A) → ((bs : List ℕ) (a : A) (rest : List ℕ) → f bs ≡ got a rest → P a)
@@ -29,23 +29,24 @@ several-got P f h (suc k) bs xs rest e =
 minutes-got : (n t h : ℕ) → t < n → h < n → (h ≡ t → ⊥) → (bs : List ℕ) (x : Arc) (rest : List ℕ) → arcMinutes t h bs ≡ got x rest → GoodArc n x
 unfolding arcMinutes
 minutes-got n t h ht hh ne bs x rest e =
-    let a = after-got (number 10 isMinutes bs) (λ w rest. got (record { tail = t; head = h; weight = w }) rest) x rest e in
+    let a = after-got (number 10 isMinutes bs) _ x rest e in
+    let b = leb-true (a .0) _ (number-got 10 isMinutes bs (a .0) (a .1) (a .2) .0) in
     let z : record { tail = t; head = h; weight = a .0 } ≡ x = got-both (record { tail = t; head = h; weight = a .0 }) x (a .1) rest (a .3) .0 in
     subst (λ (x : Arc). GoodArc n x) z
-    (record { tail = ht; head = hh; loopless = ne; weight = leb-true (a .0) 65535 (number-got 10 isMinutes bs (a .0) (a .1) (a .2) .0) })
+    (record { tail = ht; head = hh; loopless = ne; weight = omega (arith, b) })
 
 head-got : (n t : ℕ) → t < n → (bs : List ℕ) (x : Arc) (rest : List ℕ) → arcHead n t bs ≡ got x rest → GoodArc n x
 unfolding arcHead
 head-got n t ht bs x rest e =
-    let a = after-got (number 9 (isOther n t) bs) (arcMinutes t) x rest e in
-    let p = and-true (ltb (a .0) n) (not (eqb (a .0) t)) (number-got 9 (isOther n t) bs (a .0) (a .1) (a .2) .0) in
-    minutes-got n t (a .0) ht (ltb-true (a .0) n (p .0)) (eqb-false (a .0) t (not-true (eqb (a .0) t) (p .1))) (a .1) x rest (a .3)
+    let a = after-got _ _ x rest e in
+    let p = and-true _ _ (number-got _ _ _ _ _ (a .2) .0) in
+    minutes-got n t (a .0) ht (ltb-true _ _ (p .0)) (eqb-false _ _ (not-true _ (p .1))) (a .1) x rest (a .3)
 
 pub arc-got : (n : ℕ) (bs : List ℕ) (x : Arc) (rest : List ℕ) → readArc n bs ≡ got x rest → GoodArc n x
 unfolding readArc
 arc-got n bs x rest e =
-    let a = after-got (number 9 (isNode n) bs) (arcHead n) x rest e in
-    head-got n (a .0) (ltb-true (a .0) n (number-got 9 (isNode n) bs (a .0) (a .1) (a .2) .0)) (a .1) x rest (a .3)
+    let a = after-got _ _ x rest e in
+    head-got n (a .0) (ltb-true _ _ (number-got _ _ _ _ _ (a .2) .0)) (a .1) x rest (a .3)
 
 -- what the five numbers in front say
 pub record GoodHeader (h : Header) : Type 0 where
@@ -61,7 +62,8 @@ limit-got : (n m s t : ℕ) → 2 ≤ n → n ≤ 64 → m ≤ 512 → s < n →
     → headerLimit n m s t bs ≡ got h rest → GoodHeader h
 unfolding headerLimit
 limit-got n m s t h₁ h₂ h₃ h₄ h₅ h₆ bs h rest e =
-    let a = after-got (number 8 isLimit bs) (λ k rest. got (record { nodes = n; arcs = m; source = s; target = t; limit = k }) rest) h rest e in
+    let a = after-got (number 8 isLimit bs) _ h rest e in
+    let b = leb-true (a .0) _ (number-got 8 isLimit bs (a .0) (a .1) (a .2) .0) in
     subst (λ (h : Header). GoodHeader h) (got-both (record { nodes = n; arcs = m; source = s; target = t; limit = a .0 }) h (a .1) rest (a .3) .0)
     (record {
       low = h₁;
@@ -70,34 +72,37 @@ limit-got n m s t h₁ h₂ h₃ h₄ h₅ h₆ bs h rest e =
       source = h₄;
       target = h₅;
       apart = h₆;
-      limit = leb-true (a .0) 1000000 (number-got 8 isLimit bs (a .0) (a .1) (a .2) .0);
+      limit = omega (arith, b);
     })
 
 target-got : (n m s : ℕ) → 2 ≤ n → n ≤ 64 → m ≤ 512 → s < n → (bs : List ℕ) (h : Header) (rest : List ℕ) → headerTarget n m s bs ≡ got h rest → GoodHeader h
 unfolding headerTarget
 target-got n m s h₁ h₂ h₃ h₄ bs h rest e =
-    let a = after-got (number 7 (isOther n s) bs) (headerLimit n m s) h rest e in
-    let p = and-true (ltb (a .0) n) (not (eqb (a .0) s)) (number-got 7 (isOther n s) bs (a .0) (a .1) (a .2) .0) in
-    limit-got n m s (a .0) h₁ h₂ h₃ h₄ (ltb-true (a .0) n (p .0)) (eqb-false (a .0) s (not-true (eqb (a .0) s) (p .1))) (a .1) h rest (a .3)
+    let a = after-got _ _ h rest e in
+    let p = and-true _ _ (number-got _ _ _ _ _ (a .2) .0) in
+    limit-got n m s (a .0) h₁ h₂ h₃ h₄ (ltb-true _ _ (p .0)) (eqb-false _ _ (not-true _ (p .1))) (a .1) h rest (a .3)
 
 source-got : (n m : ℕ) → 2 ≤ n → n ≤ 64 → m ≤ 512 → (bs : List ℕ) (h : Header) (rest : List ℕ) → headerSource n m bs ≡ got h rest → GoodHeader h
 unfolding headerSource
 source-got n m h₁ h₂ h₃ bs h rest e =
-    let a = after-got (number 7 (isNode n) bs) (headerTarget n m) h rest e in
-    target-got n m (a .0) h₁ h₂ h₃ (ltb-true (a .0) n (number-got 7 (isNode n) bs (a .0) (a .1) (a .2) .0)) (a .1) h rest (a .3)
+    let a = after-got _ _ h rest e in
+    target-got n m (a .0) h₁ h₂ h₃ (ltb-true _ _ (number-got _ _ _ _ _ (a .2) .0)) (a .1) h rest (a .3)
 
 count-got : (n : ℕ) → 2 ≤ n → n ≤ 64 → (bs : List ℕ) (h : Header) (rest : List ℕ) → headerArcs n bs ≡ got h rest → GoodHeader h
 unfolding headerArcs
 count-got n h₁ h₂ bs h rest e =
-    let a = after-got (number 6 isArcCount bs) (headerSource n) h rest e in
-    source-got n (a .0) h₁ h₂ (leb-true (a .0) 512 (number-got 6 isArcCount bs (a .0) (a .1) (a .2) .0)) (a .1) h rest (a .3)
+    let a = after-got (number 6 isArcCount bs) _ h rest e in
+    let b = leb-true (a .0) _ (number-got 6 isArcCount bs (a .0) (a .1) (a .2) .0) in
+    source-got n (a .0) h₁ h₂ (omega (arith, b)) (a .1) h rest (a .3)
 
 pub header-good : (bs : List ℕ) (h : Header) (rest : List ℕ) → readHeader bs ≡ got h rest → GoodHeader h
 unfolding readHeader
 header-good bs h rest e =
-    let a = after-got (number 5 isNodeCount bs) headerArcs h rest e in
-    let p = and-true (leb 2 (a .0)) (leb (a .0) 64) (number-got 5 isNodeCount bs (a .0) (a .1) (a .2) .0) in
-    count-got (a .0) (leb-true 2 (a .0) (p .0)) (leb-true (a .0) 64 (p .1)) (a .1) h rest (a .3)
+    let a = after-got (number 5 isNodeCount bs) _ h rest e in
+    let p = and-true _ _ (number-got 5 isNodeCount bs (a .0) (a .1) (a .2) .0) in
+    let l = leb-true _ (a .0) (p .0) in
+    let b = leb-true (a .0) _ (p .1) in
+    count-got (a .0) (omega (arith, l)) (omega (arith, b)) (a .1) h rest (a .3)
 
 marks-got : (h : Header) → GoodHeader h → (xs : List Arc) → length xs ≡ h .arcs → All (GoodArc (h .nodes)) xs → (bs : List ℕ) (S : Sheet) (rest : List ℕ)
     → readMarks h xs bs ≡ got S rest → Good S
@@ -123,8 +128,8 @@ marks-got h H xs c g bs S rest e =
 arcs-got : (h : Header) → GoodHeader h → (bs : List ℕ) (S : Sheet) (rest : List ℕ) → readArcs h bs ≡ got S rest → Good S
 unfolding readArcs
 arcs-got h H bs S rest e =
-    let a = after-got (several (readArc (h .nodes)) (h .arcs) bs) (readMarks h) S rest e in
-    let w = several-got (GoodArc (h .nodes)) (readArc (h .nodes)) (arc-got (h .nodes)) (h .arcs) bs (a .0) (a .1) (a .2) in
+    let a = after-got _ _ S rest e in
+    let w = several-got _ _ (arc-got _) _ _ (a .0) (a .1) (a .2) in
     marks-got h H (a .0) (w .0) (w .1) (a .1) S rest (a .3)
 
 pub sheet-good : (bs : List ℕ) (S : Sheet) (rest : List ℕ) → readSheet bs ≡ got S rest → Good S

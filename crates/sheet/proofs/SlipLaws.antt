@@ -30,7 +30,7 @@ numbers-below s b = (
   omega (arith, b .high),
   (
     omega (arith, b .few),
-    below-append 16384 (s .goals) (length (s .reasons) ∷ s .reasons) (b .goals) (omega (arith, b .many), b .reasons),
+    below-append 16384 (s .goals) _ (b .goals) (omega (arith, b .few, b .many), b .reasons),
   ),
 )
 
@@ -39,7 +39,8 @@ pub slip-size : (s : Slip) → Small s → (length (slipBytes s) ≤ 1200) × Be
 unfolding slipBytes slipNumbers
 slip-size s b =
     let n = numbers-size (slipNumbers s) (numbers-below s b) in
-    (omega (arith, n .0, length-append (s .goals) (length (s .reasons) ∷ s .reasons), b .few, b .many), n .1)
+    let l : length (slipNumbers s) ≡ length (s .goals) + length (s .reasons) + 3 = simp length-append (omega arith) in
+    (omega (arith, n .0, l, b .few, b .many), n .1)
 
 -- a count and as many numbers read back
 list-back : (xs t : List ℕ) → length xs < 268435456 → Below 268435456 xs → readList (writeNumbers (length xs ∷ xs) ++ t) ≡ got xs t
