@@ -146,7 +146,7 @@ fn show_reason_checked(name: &[u8], sheet: &[u8], item: u32, slip: &[u8]) {
     show_check(sheet, slip);
 }
 
-// Prints a line: the name, and the bytes of the arc's view.
+// Prints a line: the name, and the bytes of the arc's view. Where in the sheet they stand no program can see; the contract of `arc_view` says it.
 fn show_view(name: &[u8], sheet: &[u8], arc: u32) {
     io::write_all(STDOUT_FILENO, name);
     io::write_all(STDOUT_FILENO, b":");
