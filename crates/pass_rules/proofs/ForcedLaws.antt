@@ -24,22 +24,6 @@ use Rattle.pass_rules.specs.Route.{Forced, is-source, is-target, ends-ar
 use Rattle.pass_rules.specs.Verdict.{fitsSheet, isForced}
 
 module _ (S : Sheet) where
-  pub forced-is : (p : ℕ) → isForced S p ≡ true → Forced S p
-  unfolding isForced allArcs
-  forced-is p e =
-      first (or-true (eqb p (S .source)) (eqb p (S .target) || endsMandatory S p (allArcs (S .graph)))
-      (and-true (ltb p (S .graph .nodes)) (eqb p (S .source) || (eqb p (S .target) || endsMandatory S p (allArcs (S .graph)))) e .1))
-    where
-      second : (eqb p (S .target) ≡ true) ⊎ (endsMandatory S p (allArcs (S .graph)) ≡ true) → Forced S p
-      second (inl q) = is-target (eqb-true p (S .target) q)
-      second (inr q) =
-          let f = ends-mandatory S p (allArcs (S .graph)) q in
-          ends-arc (f .0) (omega (arith, span-member (length (S .graph .arcs)) 0 (f .0) (f .1) .1)) (f .2) (f .3)
-
-      first : (eqb p (S .source) ≡ true) ⊎ ((eqb p (S .target) || endsMandatory S p (allArcs (S .graph))) ≡ true) → Forced S p
-      first (inl q) = is-source (eqb-true p (S .source) q)
-      first (inr q) = second (or-true (eqb p (S .target)) (endsMandatory S p (allArcs (S .graph))) q)
-
   module _ (g : Good S) where
     forced-node : (p : ℕ) → Forced S p → p < S .graph .nodes
     forced-node p (is-source q) = rw q (g .source)
@@ -58,6 +42,22 @@ module _ (S : Sheet) where
             true-or (eqb p (S .source)) (eqb p (S .target) || endsMandatory S p (allArcs (S .graph)))
             (true-or (eqb p (S .target)) (endsMandatory S p (allArcs (S .graph)))
             (is-end S p l (allArcs (S .graph)) (member-span (length (S .graph .arcs)) 0 l (omega arith) (omega arith)) m e))
+
+  pub forced-is : (p : ℕ) → isForced S p ≡ true → Forced S p
+  unfolding isForced allArcs
+  forced-is p e =
+      first (or-true (eqb p (S .source)) (eqb p (S .target) || endsMandatory S p (allArcs (S .graph)))
+      (and-true (ltb p (S .graph .nodes)) (eqb p (S .source) || (eqb p (S .target) || endsMandatory S p (allArcs (S .graph)))) e .1))
+    where
+      second : (eqb p (S .target) ≡ true) ⊎ (endsMandatory S p (allArcs (S .graph)) ≡ true) → Forced S p
+      second (inl q) = is-target (eqb-true p (S .target) q)
+      second (inr q) =
+          let f = ends-mandatory S p (allArcs (S .graph)) q in
+          ends-arc (f .0) (omega (arith, span-member (length (S .graph .arcs)) 0 (f .0) (f .1) .1)) (f .2) (f .3)
+
+      first : (eqb p (S .source) ≡ true) ⊎ ((eqb p (S .target) || endsMandatory S p (allArcs (S .graph))) ≡ true) → Forced S p
+      first (inl q) = is-source (eqb-true p (S .source) q)
+      first (inr q) = second (or-true (eqb p (S .target)) (endsMandatory S p (allArcs (S .graph))) q)
 
   -- where the verdict is 0, some walk meets each of them
   pub forced-met : Stands S → (p : ℕ) → Forced S p → fitsSheet S (p ∷ []) ≡ true
