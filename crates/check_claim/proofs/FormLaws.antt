@@ -2,6 +2,7 @@
 -- Assumes nothing.
 use Prim.Native.Nat.{ℕ, _+_, _≤_, _<_}
 use mathlib.Core.Path.{_≡_, refl, sym, ap, _∙_}
+use mathlib.Core.Logic.{⊎-elim}
 use mathlib.Core.Bool.{Bool, true, false, not, _&&_, _||_}
 use mathlib.Core.List.{List, [], _∷_, _++_}
 use native.Mathlib.Omega.{arith}
@@ -9,7 +10,7 @@ use lib.ListN.{length, getD}
 use lib.Dec.{eqb, ltb, leb}
 use borrow.Author.Tests.{ltb-true, eqb-true, leb-true}
 use Rattle.lists.specs.Lists.{pick, every, ascends}
-use Rattle.lists.proofs.TestLaws.{and-true, false-of}
+use Rattle.lists.proofs.TestLaws.{and-true, false-of, or-true}
 use Rattle.lists.proofs.MemberLaws.{every-at}
 use Rattle.lists.proofs.AscendLaws.{ascends-distinct}
 use Rattle.lists.proofs.Pigeonhole.{pigeonhole, below-all}
@@ -84,27 +85,36 @@ few-counted first count e = go (eqb first 1) (eqb first 3) e
     go false false q = omega (arith, eqb-true count 1 q)
 
 -- with more than eight goals, or more reasons than items, a slip is not well formed
-pub many-goals : (S : Sheet) (first : ℕ) (goals reasons : List ℕ) → 8 < length goals → wellFormed S (slipFrom first goals reasons) ≡ false
+many-goals : (S : Sheet) (first : ℕ) (goals reasons : List ℕ) → 8 < length goals → wellFormed S (slipFrom first goals reasons) ≡ false
 many-goals S first goals reasons h =
     false-of (wellFormed S (slipFrom first goals reasons)) (λ w. absurd (omega (arith, few-counted first (length goals) (parts S first goals reasons w .counted))))
 
 few-reasons : (n : ℕ) (xs : List ℕ) → ascends xs ≡ true → every (λ i. ltb i n) xs ≡ true → length xs ≤ n
 few-reasons n xs a e = pigeonhole n xs (ascends-distinct xs a) (below-all n xs (λ x m. ltb-true x n (every-at (λ i. ltb i n) xs x e m)))
 
-pub many-reasons : (S : Sheet) (first : ℕ) (goals reasons : List ℕ) → itemCount (S .graph) < length reasons → wellFormed S (slipFrom first goals reasons) ≡ false
+many-reasons : (S : Sheet) (first : ℕ) (goals reasons : List ℕ) → itemCount (S .graph) < length reasons → wellFormed S (slipFrom first goals reasons) ≡ false
 many-reasons S first goals reasons h =
     false-of (wellFormed S (slipFrom first goals reasons))
     (λ w. let P = parts S first goals reasons w in absurd (omega (arith, few-reasons (itemCount (S .graph)) reasons (P .reasons-rise) (P .reasons-known))))
+
+-- more goals or reasons than any slip that is well formed has
+pub too-many : (S : Sheet) (first : ℕ) (goals reasons : List ℕ) {g r n : ℕ} → length goals ≡ g → length reasons ≡ r → itemCount (S .graph) ≡ n
+    → (ltb 8 g || ltb n r) ≡ true → wellFormed S (slipFrom first goals reasons) ≡ false
+too-many S first goals reasons {g} {r} {n} p q k t =
+    ⊎-elim (λ h. many-goals S first goals reasons (omega (arith, ltb-true 8 g h))) (λ h. many-reasons S first goals reasons (omega (arith, ltb-true n r h))) (or-true (ltb 8 g) (ltb n r) t)
 
 -- a slip that is well formed for a whole sheet can be asked for a least length
 pub formed-asked : {h : Header} {arcs marks : List ℕ} (first : ℕ) (goals reasons : List ℕ) → Whole h arcs marks
     → wellFormed (sheetOf h arcs marks) (slipFrom first goals reasons) ≡ true → Claimed h arcs goals reasons
 formed-asked {h} {arcs} {marks} first goals reasons W w = record {
-  proper = λ ms l. record { few = W .proper .few; marked = omega (arith, W .held .0, W .few, W .proper .few); tails = W .proper .tails; heads = W .proper .heads };
-  few = omega (arith, W .held .0, W .few);
-  ends = (W .source, W .target);
-  limit = W .limit;
-  sought = λ ms. record { eight = few-counted first (length goals) (P .counted); below = λ i l. omega (arith, known i l, W .held .0); distinct = ascends-distinct goals (P .goals-rise) };
+  sought = λ ms l. record {
+    proper = record { few = W .proper .few; marked = omega (arith, W .held .0, W .few, W .proper .few); tails = W .proper .tails; heads = W .proper .heads };
+    few = omega (arith, W .held .0, W .few);
+    source = W .source;
+    target = W .target;
+    limit = W .limit;
+    fit = record { eight = few-counted first (length goals) (P .counted); below = λ i l. omega (arith, known i l, W .held .0); distinct = ascends-distinct goals (P .goals-rise) };
+  };
   items = λ j m. omega (arith, ltb-true j _ (every-at (λ i. ltb i (itemCount (graphOf (h .nodes) arcs))) reasons j (P .reasons-known) m), items-are W, W .few, W .proper .few);
 }
   where

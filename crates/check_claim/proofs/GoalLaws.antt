@@ -1,31 +1,20 @@
 -- The kinds of the goals, and whether a walk clear of the reasons meets them. Assumes nothing.
-use Prim.Native.Nat.{ℕ, _≤_}
-use mathlib.Core.Path.{_≡_, ap, _∙_, fun-ext}
+use Prim.Native.Nat.{ℕ}
+use mathlib.Core.Path.{_≡_, ap, fun-ext}
 use mathlib.Core.Bool.{Bool, true, false, _&&_}
 use mathlib.Core.List.{List}
-use native.Mathlib.Omega.{arith}
 use lib.ListN.{getD}
-use lib.Dec.{eqb, leb}
+use lib.Dec.{eqb}
 use Rattle.lists.specs.Lists.{member, every}
-use Rattle.walks.specs.Lengths.{within}
-use Rattle.walks.specs.Graph.{closedIn, least, fits}
-use Rattle.walks.specs.Flat.{graphOf}
-use Rattle.rows.specs.Held.{held, code, atMost}
-use Rattle.sheet.specs.declared.Header.{Header}
+use Rattle.walks.specs.Graph.{Graph, closedIn, fits}
 use Rattle.sheet.specs.Sheet.{Sheet, isOpen, isMandatory, markOf, required}
-use Rattle.item_fits.proofs.FitLaws.{held-within}
 use Rattle.check_rules.specs.Check.{isGoal}
 use Rattle.check_claim.specs.Claim.{Closing}
 
--- the least length clear of the closing marks says whether a walk clear of the reasons fits
-pub goals-fit : (h : Header) (arcs marks goals reasons : List ℕ) (x : ℕ) → h .limit ≤ 1000000 → Closing reasons marks
-    → x ≡ code (atMost (h .limit) (least (graphOf (h .nodes) arcs) (closedIn marks) goals (h .source) (h .target)))
-    → leb x (h .limit) ≡ fits (graphOf (h .nodes) arcs) (h .source) (h .target) (h .limit) (λ j. member j reasons) goals
-unfolding fits held
-goals-fit h arcs marks goals reasons x l c e =
-    let G = graphOf (h .nodes) arcs in
-    ap (λ (y : ℕ). leb y (h .limit)) e ∙ held-within (h .limit) (least G (closedIn marks) goals (h .source) (h .target)) (omega arith)
-    ∙ ap (λ (closed : ℕ → Bool). within (least G closed goals (h .source) (h .target)) (h .limit)) (fun-ext (c .each))
+-- what the closing marks close are the reasons
+pub clear-fits : (G : Graph) (s t k : ℕ) {marks reasons : List ℕ} (goals : List ℕ) → Closing reasons marks
+    → fits G s t k (closedIn marks) goals ≡ fits G s t k (λ j. member j reasons) goals
+clear-fits G s t k goals c = ap (λ (closed : ℕ → Bool). fits G s t k closed goals) (fun-ext (c .each))
 
 -- the goals' tests by the first number
 module _ (S : Sheet) (v : ℕ) (goals : List ℕ) where

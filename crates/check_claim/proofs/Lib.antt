@@ -1,4 +1,3 @@
-pub mod ListLaws
 pub mod ClosingLaws
 pub mod FormLaws
 pub mod GoalLaws

@@ -1,13 +1,12 @@
 -- What the code has ready when it asks whether a walk clear of the reasons meets the goals.
-use Prim.Native.Nat.{ℕ, _≤_, _<_}
+use Prim.Native.Nat.{ℕ, _<_}
 use mathlib.Core.Path.{_≡_}
 use mathlib.Core.Bool.{true}
 use mathlib.Core.List.{List}
 use lib.ListN.{length}
 use Rattle.lists.specs.Lists.{member}
 use Rattle.walks.specs.Graph.{closedIn}
-use Rattle.rows.specs.Net.{netOf, Proper}
-use Rattle.goal_table.specs.Table.{GoalsFit}
+use Rattle.item_fits.specs.Asked.{Sought}
 use Rattle.sheet.specs.declared.Header.{Header}
 
 -- marks of 576 items that close the listed ones and no other
@@ -15,11 +14,7 @@ pub record Closing (reasons marks : List ℕ) : Type 0 where
   pub size : length marks ≡ 576
   pub each : (j : ℕ) → closedIn marks j ≡ member j reasons
 
--- a graph with source, target and limit, goals, and reasons, for which a least length can be asked
+-- goals and reasons for which a least length can be asked, whatever is closed
 pub record Claimed (h : Header) (arcs goals reasons : List ℕ) : Type 0 where
-  pub proper : (marks : List ℕ) → length marks ≡ 576 → Proper (netOf (h .nodes) arcs marks)
-  pub few : length arcs ≤ 1536
-  pub ends : (h .source < h .nodes) × (h .target < h .nodes)
-  pub limit : h .limit ≤ 1000000
-  pub sought : (marks : List ℕ) → GoalsFit (netOf (h .nodes) arcs marks) goals
+  pub sought : (marks : List ℕ) → length marks ≡ 576 → Sought h arcs marks goals
   pub items : (j : ℕ) → member j reasons ≡ true → j < 576

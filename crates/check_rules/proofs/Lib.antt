@@ -1,1 +1,2 @@
 pub mod CheckLaws
+pub mod WithinLaws

@@ -1,27 +1,29 @@
 -- What check gives and leaves, from its parts. Assumes nothing.
 use Prim.Native.Nat.{ℕ, _≤_, _<_}
-use mathlib.Core.Path.{_≡_, refl, sym, ap, ap₂, _∙_}
-use mathlib.Core.Bool.{Bool, true, false, _&&_}
-use mathlib.Core.List.{List, [], _++_}
-use lib.ListN.{length, drop}
-use lib.Dec.{leb, ltb}
-use borrow.Author.Tests.{lt-ltb, le-ltb, le-leb}
-use Rattle.lists.specs.Lists.{pick}
-use Rattle.varint.specs.Varint.{Read, got, refuse, after, number}
+use mathlib.Core.Path.{_≡_, sym, ap, _∙_}
+use mathlib.Core.Bool.{Bool, true}
+use mathlib.Core.List.{List, []}
+use native.Mathlib.Omega.{arith}
+use lib.ListN.{length}
+use lib.Dec.{ltb}
+use borrow.Author.Tests.{lt-ltb, le-ltb}
+use Rattle.varint.specs.Varint.{Read, got, refuse, after}
 use Rattle.sheet.specs.Sheet.{Sheet}
-use Rattle.sheet.specs.Slip.{Slip, readSlip, slipGoals, as17}
+use Rattle.sheet.specs.Slip.{Slip, readSlip}
 use Rattle.sheet.specs.Reader.{taken}
-use Rattle.sheet.specs.Lent.{workNumbers, zeros, zeroed, workAfter}
+use Rattle.sheet.specs.Lent.{zeroed, workAfter}
 use Rattle.slip_reader.specs.Form.{slipOf}
 use Rattle.slip_reader.specs.declared.SlipForm.{SlipForm}
 use Rattle.slip_reader.specs.declared.SlipRead.{SlipRead}
 use Rattle.slip_reader.specs.declared.SlipRead.the-variants.{Got as SlipGot, Refused as SlipRefused}
+use Rattle.work.proofs.LeftLaws.{left-finished, left-refused}
+use Rattle.work.specs.Left.{left}
+use Rattle.check_rules.proofs.WithinLaws.{Drawn, check-drawn}
 use Rattle.pass_rules.proofs.AcceptedLaws.{accepted-taken}
-use Rattle.check_rules.specs.Check.{wellFormed, holds, judgedOn, checkOn, CheckOutcome, checkOutcome, checked}
+use Rattle.check_rules.specs.Check.{judgedOn, checkOn, CheckOutcome, checkOutcome, checked}
 use Rattle.check_answer.specs.declared.CheckAnswer.{CheckAnswer}
 use Rattle.check_answer.specs.Answer.{checkAnswerOf}
 use Rattle.checker.specs.Written.{formOf}
-use Rattle.sheet.proofs.RefusalLaws.{taken-refuses}
 
 -- the answer on a slip, from how it is written
 module _ (S : Sheet) (slip : List ℕ) (r : SlipRead) (e : slipOf slip r ≡ readSlip slip) where
@@ -39,47 +41,33 @@ module _ (S : Sheet) (slip : List ℕ) (r : SlipRead) (e : slipOf slip r ≡ rea
   answer-unformed p z = z ∙ read-as p
 
 -- the answer's number and yes, and the work
-abbrev pub given : CheckAnswer → List ℕ → CheckOutcome
+abbrev given : CheckAnswer → List ℕ → CheckOutcome
 given a work = record { number = a .number; yes = a .yes; work = work }
 
--- what a slip draws leaves the work's numbers zero
-slip-zeroes : (S : Sheet) (slip work : List ℕ) → given (checkAnswerOf (after (readSlip slip) (judgedOn S))) (zeroed work) ≡ checkOutcome (after (readSlip slip) (judgedOn S)) work
-unfolding readSlip as17 after judgedOn checkAnswerOf checkOutcome workAfter
-slip-zeroes S slip work = go (after (number 17 (λ x. leb 1 x && leb x 4) slip) slipGoals)
-  where
-    formed : (t : Bool) (s : Slip) (rest : List ℕ)
-        → given (checkAnswerOf (pick t (got (holds S s) rest) (refuse 18))) (zeroed work) ≡ checkOutcome (pick t (got (holds S s) rest) (refuse 18)) work
-    formed true s rest = refl
-    formed false s rest = refl
+-- the work is left by the refusal number
+given-is : (work : List ℕ) (r : Read Bool) → Drawn r → given (checkAnswerOf r) (left zeroed (checkAnswerOf r .number) work) ≡ checkOutcome r work
+unfolding checkAnswerOf checkOutcome workAfter
+given-is work (got answer rest) d = rw (left-finished zeroed work)
+given-is work (refuse e) d = rw (left-refused zeroed work e (λ z. absurd (omega (arith, d .0))))
 
-    go : (r : Read Slip) → given (checkAnswerOf (after (as17 r) (judgedOn S))) (zeroed work) ≡ checkOutcome (after (as17 r) (judgedOn S)) work
-    go (got s rest) = formed (wellFormed S s) s rest
-    go (refuse e) = refl
-
-zeroed-same : (xs ys : List ℕ) → drop 16384 xs ≡ drop 16384 ys → zeroed xs ≡ zeroed ys
-unfolding zeroed
-zeroed-same xs ys d = ap (λ (zs : List ℕ). zeros workNumbers ++ zs) d
-
-module _ (sheet work slip : List ℕ) where
+module _ (sheet work slip : List ℕ) {a : CheckAnswer} where
   -- 1
-  pub checked-short : (a : CheckAnswer) → a ≡ checkAnswerOf (refuse 1) → length work < 16384 → given a work ≡ checked sheet work slip
+  pub checked-short : a ≡ checkAnswerOf (refuse 1) → length work < 16384 → given a work ≡ checked sheet work slip
   unfolding checked checkOutcome workAfter checkAnswerOf
-  checked-short a e h = let z : ltb (length work) 16384 ≡ true = lt-ltb (length work) 16384 h in rw (e, z)
+  checked-short e h = let z : ltb (length work) 16384 ≡ true = lt-ltb (length work) 16384 h in rw (e, z)
 
-  on-sheet : 16384 ≤ length work → checkOutcome (checkOn sheet slip) work ≡ checked sheet work slip
+  -- what sheet and slip draw, with the work left by that
+  pub checked-left : 16384 ≤ length work → a ≡ checkAnswerOf (checkOn sheet slip) → {after : List ℕ} → after ≡ left zeroed (a .number) work
+      → given a after ≡ checked sheet work slip
   unfolding checked
-  on-sheet h = let z : ltb (length work) 16384 ≡ false = le-ltb (length work) 16384 h in rw z
+  checked-left h e z =
+      rw (z, le-ltb (length work) 16384 h) (ap (λ (b : CheckAnswer). given b (left zeroed (b .number) work)) e ∙ given-is work (checkOn sheet slip) (check-drawn sheet slip))
 
-  -- 3 to 13: the work is left as found
-  pub checked-refused : (a : CheckAnswer) (w : ℕ) → a ≡ checkAnswerOf (refuse w) → 16384 ≤ length work → taken sheet ≡ refuse w
-      → given a work ≡ checked sheet work slip
-  unfolding checkOn after checkOutcome workAfter checkAnswerOf
-  checked-refused a w e h t =
-      let z : leb w 13 ≡ true = le-leb w 13 (taken-refuses sheet w t .1) in
-      rw e (rw (accepted-taken sheet, t, z) at (on-sheet h))
+-- what check answers to a sheet that is refused, and to one that is taken
+pub bad-sheet : (sheet slip : List ℕ) (w : ℕ) → taken sheet ≡ refuse w → checkOn sheet slip ≡ refuse w
+unfolding checkOn after
+bad-sheet sheet slip w e = rw (accepted-taken sheet, e)
 
-  -- 17, 18, yes or no: the work's numbers are zero
-  pub checked-slip : (a : CheckAnswer) (S : Sheet) (used left : List ℕ) → a ≡ checkAnswerOf (after (readSlip slip) (judgedOn S)) → 16384 ≤ length work → taken sheet ≡ got S []
-      → drop 16384 used ≡ drop 16384 work → left ≡ zeroed used → given a left ≡ checked sheet work slip
-  unfolding checkOn after
-  checked-slip a S used left e h t d z = ap₂ given e (z ∙ zeroed-same used work d) ∙ slip-zeroes S slip work ∙ (rw (accepted-taken sheet, t) at (on-sheet h))
+pub good-sheet : (sheet slip : List ℕ) (S : Sheet) → taken sheet ≡ got S [] → checkOn sheet slip ≡ after (readSlip slip) (judgedOn S)
+unfolding checkOn after
+good-sheet sheet slip S e = rw (accepted-taken sheet, e)

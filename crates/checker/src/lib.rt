@@ -1,15 +1,16 @@
 // The operation check (document 01, 'The operations and what they refuse'): whether the list of a slip is a reason for its goals.
 ghost use mathlib.Core.Path.{_≡_};
+ghost use mathlib.Core.Bool.{_||_};
 ghost use mathlib.Core.List.{[]};
 ghost use Prim.Native.Nat.{_+_, _≤_};
-ghost use lib.ListN.{length, drop};
+ghost use lib.Dec.{ltb};
+ghost use lib.ListN.{length};
 ghost use Rattle.varint.specs.Varint.{after};
 ghost use Rattle.sheet.specs.Slip.{readSlip};
-ghost use Rattle.sheet.specs.Lent.{zeroed};
 ghost use Rattle.sheet_required.specs.Held.{sheetOf, Whole};
 ghost use Rattle.slip_reader.specs.Form.{SlipCounts};
 ghost use Rattle.slip_reader.specs.declared.SlipRead.the-variants.{Got};
-ghost use Rattle.check_rules.specs.Check.{judgedOn, checked};
+ghost use Rattle.check_rules.specs.Check.{judgedOn, checkOn, checked};
 ghost use Rattle.check_answer.specs.Answer.{checkAnswerOf};
 ghost use Rattle.checker.specs.Written.{formOf};
 use check_answer::CheckAnswer;
@@ -17,11 +18,9 @@ use sheet::Header;
 use sheet_reader::SheetRead;
 use slip_reader::SlipForm;
 use slip_reader::SlipRead;
-
-const WORK_NUMBERS: usize = 16384;
-
-// The most goals of a slip.
-const GOALS: usize = 8;
+use walks::ARC_NUMBERS;
+use walks::GOALS;
+use walks::ITEMS;
 
 // Judges the goals and the reasons of a slip: 18, or yes or no.
 fn answer_lists(
@@ -30,18 +29,18 @@ fn answer_lists(
     marks: &[u8],
     slip: &[u8],
     form: SlipForm,
-    work: &mut [u32],
+    scratch: &mut [u32],
 ) -> CheckAnswer
-    requires { ⌜ Whole header (now arcs) (now marks) × (16384 ≤ length (now work)) × SlipCounts (now slip) (Got form) ⌝ }
+    requires { ⌜ Whole header (now arcs) (now marks) × (3072 ≤ length (now scratch)) × SlipCounts (now slip) (Got form) ⌝ }
     requires { ⌜ (form .goals ≤ 8) × (form .reasons ≤ header .nodes + header .arcs) ⌝ }
-    ensures { λ r. ⌜ r ≡ checkAnswerOf (judgedOn (sheetOf header (now (arcs .entry)) (now (marks .entry))) (formOf (now (slip .entry)) form) []) ⌝ }
-    ensures { λ _. ⌜ drop 16384 (now (work .exit)) ≡ drop 16384 (now (work .entry)) ⌝ }
+    ensures { λ r. let S = sheetOf header (now (arcs .entry)) (now (marks .entry)) in
+        ⌜ r ≡ checkAnswerOf (judgedOn S (formOf (now (slip .entry)) form) []) ⌝ }
 {
     let first = form.first;
     let goal_count = form.goals as usize;
     let reason_count = form.reasons as usize;
-    let mut goal_list = [0usize; 8];
-    let mut reason_list = [0usize; 576];
+    let mut goal_list = [0usize; GOALS];
+    let mut reason_list = [0usize; ITEMS];
     numbers::numbers_at(slip, form.goals_at, goal_count, &mut goal_list);
     numbers::numbers_at(slip, form.reasons_at, reason_count, &mut reason_list);
     let goals = &goal_list[..goal_count];
@@ -52,73 +51,78 @@ fn answer_lists(
     if !check_claim::kinds_hold(header, arcs, marks, first, goals, reasons) {
         return check_answer::judged(false);
     }
-    check_answer::judged(!check_claim::fits_goals(header, arcs, goals, reasons, work))
+    let closed = check_claim::closing(reasons);
+    check_answer::judged(!item_fits::fits_goals(header, arcs, &closed, goals, scratch))
 }
 
-// Judges a slip that is well written: 18, or yes or no. A list that is longer than any that is well formed is not read.
-fn answer_form(
-    header: Header,
-    arcs: &[u32],
-    marks: &[u8],
-    slip: &[u8],
-    form: SlipForm,
-    work: &mut [u32],
-) -> CheckAnswer
-    requires { ⌜ Whole header (now arcs) (now marks) × (16384 ≤ length (now work)) × SlipCounts (now slip) (Got form) ⌝ }
-    ensures { λ r. ⌜ r ≡ checkAnswerOf (judgedOn (sheetOf header (now (arcs .entry)) (now (marks .entry))) (formOf (now (slip .entry)) form) []) ⌝ }
-    ensures { λ _. ⌜ drop 16384 (now (work .exit)) ≡ drop 16384 (now (work .entry)) ⌝ }
+// Whether a slip has more goals or reasons than any that is well formed.
+fn too_long(header: Header, form: SlipForm) -> bool
+    requires { ⌜ (header .nodes ≤ 64) × (header .arcs ≤ 512) ⌝ }
+    ensures { λ r. ⌜ r ≡ (ltb 8 (form .goals) || ltb (header .nodes + header .arcs) (form .reasons)) ⌝ }
 {
     if form.goals as usize > GOALS {
-        return check_answer::refused(18);
+        return true;
     }
-    if form.reasons as usize > header.nodes + header.arcs {
-        return check_answer::refused(18);
-    }
-    answer_lists(header, arcs, marks, slip, form, work)
+    form.reasons as usize > header.nodes + header.arcs
 }
 
-// Judges a slip against a sheet that was taken: 17, 18, or yes or no.
-fn answer_slip(
+// Judges a slip against a sheet that was taken: 17, 18, or yes or no. A list that is longer than any that is well formed is not read.
+pub fn answer_slip(
     header: Header,
     arcs: &[u32],
     marks: &[u8],
     slip: &[u8],
-    work: &mut [u32],
+    scratch: &mut [u32],
 ) -> CheckAnswer
-    requires { ⌜ Whole header (now arcs) (now marks) × (16384 ≤ length (now work)) ⌝ }
-    ensures { λ r. ⌜ r ≡ checkAnswerOf (after (readSlip (now (slip .entry))) (judgedOn (sheetOf header (now (arcs .entry)) (now (marks .entry))))) ⌝ }
-    ensures { λ _. ⌜ drop 16384 (now (work .exit)) ≡ drop 16384 (now (work .entry)) ⌝ }
+    requires { ⌜ Whole header (now arcs) (now marks) × (3072 ≤ length (now scratch)) ⌝ }
+    ensures { λ r. let S = sheetOf header (now (arcs .entry)) (now (marks .entry)) in
+        ⌜ r ≡ checkAnswerOf (after (readSlip (now (slip .entry))) (judgedOn S)) ⌝ }
 {
     match slip_reader::judge_slip(slip) {
-        SlipRead::Got(form) => answer_form(header, arcs, marks, slip, form, work),
+        SlipRead::Got(form) => {
+            if too_long(header, form) {
+                return check_answer::refused(18);
+            }
+            answer_lists(header, arcs, marks, slip, form, scratch)
+        }
         SlipRead::Refused => check_answer::refused(17),
     }
 }
 
-// Ends a call that got as far as the slip: the work's numbers are zero.
-fn ended(answer: CheckAnswer, work: &mut [u32]) -> CheckAnswer
-    requires { ⌜ 16384 ≤ length (now work) ⌝ }
-    ensures { λ r. ⌜ (r ≡ answer) × (now (work .exit) ≡ zeroed (now (work .entry))) ⌝ }
+// The same with a scratch of its own, which is made no sooner than the sheet is known to be good.
+fn answer_taken(header: Header, arcs: &[u32], marks: &[u8], slip: &[u8]) -> CheckAnswer
+    requires { ⌜ Whole header (now arcs) (now marks) ⌝ }
+    ensures { λ r. let S = sheetOf header (now (arcs .entry)) (now (marks .entry)) in
+        ⌜ r ≡ checkAnswerOf (after (readSlip (now (slip .entry))) (judgedOn S)) ⌝ }
 {
-    work::zero(work);
-    answer
+    let mut scratch = [0u32; rows::SCRATCH_NUMBERS];
+    answer_slip(header, arcs, marks, slip, &mut scratch)
 }
 
-// Check: 1 and 3 to 14 for the work and the sheet, then 17 and 18 for the slip; yes or no. No sheet draws 14 (law `accepted-taken`).
-pub fn check(sheet: &[u8], work: &mut [u32], slip: &[u8]) -> CheckAnswer
-    ensures { λ r. ⌜ record { number = r .number; yes = r .yes; work = now (work .exit) } ≡ checked (now (sheet .entry)) (now (work .entry)) (now (slip .entry)) ⌝ }
+// What check answers to a sheet and a slip: 3 to 13 for the sheet, then 17 and 18 for the slip; yes or no.
+pub fn check_sheet(sheet: &[u8], slip: &[u8]) -> CheckAnswer
+    ensures { λ r. ⌜ r ≡ checkAnswerOf (checkOn (now (sheet .entry)) (now (slip .entry))) ⌝ }
 {
-    if work.len() < WORK_NUMBERS {
-        return check_answer::refused(1);
-    }
-    let mut arcs = [0u32; 1536];
-    let mut marks = [0u8; 576];
+    let mut arcs = [0u32; ARC_NUMBERS];
+    let mut marks = [0u8; ITEMS];
     let header = match sheet_reader::read(sheet, &mut arcs, &mut marks) {
         SheetRead::Got(header) => header,
         SheetRead::Refused(why) => return check_answer::refused(why),
     };
     let numbers = 3 * header.arcs;
     let items = header.nodes + header.arcs;
-    let answer = answer_slip(header, &arcs[..numbers], &marks[..items], slip, work);
-    ended(answer, work)
+    answer_taken(header, &arcs[..numbers], &marks[..items], slip)
+}
+
+// Check: for every sheet, work and slip what document 01 says, refused ones too. No sheet draws 14 (law `accepted-taken`).
+pub fn check(sheet: &[u8], work: &mut [u32], slip: &[u8]) -> CheckAnswer
+    ensures { λ r. ⌜ record { number = r .number; yes = r .yes; work = now (work .exit) }
+        ≡ checked (now (sheet .entry)) (now (work .entry)) (now (slip .entry)) ⌝ }
+{
+    if work.len() < work::WORK_NUMBERS {
+        return check_answer::refused(1);
+    }
+    let answer = check_sheet(sheet, slip);
+    work::leave(work, answer.number);
+    answer
 }

@@ -7,12 +7,13 @@ use mathlib.Core.List.{List, []}
 use Prim.Native.Nat.{ℕ, _+_, _*_, _-_, _^_, _≤_, _<_}
 use lib.ListN.{length, getD, take, drop}
 use Rattle.lists.specs.Lists.{Distinct}
-use Rattle.rows.specs.Held.{held}
+use Rattle.rows.specs.Held.{missing, held}
 use Rattle.rows.specs.Net.{Net, graph, closed, count}
 use Rattle.rows.specs.Rows.{RowIs}
 use Rattle.walks.specs.Goals.{entryOf, exitOf, ownOf}
 use Rattle.walks.specs.Graph.{Graph, least}
-use Rattle.goal_table.specs.Sets.{has, justPast}
+use Rattle.walks.specs.Lengths.{Least, some, plus, lesser}
+use Rattle.goal_table.specs.Sets.{has, chosen, justPast}
 
 -- at most 8 goals, different items of the graph
 pub record GoalsFit (N : Net) (goals : List ℕ) : Type 0 where
@@ -69,6 +70,38 @@ pub record SetAsked (N : Net) (cap a : ℕ) (goals : List ℕ) (S v : ℕ) (work
   pub set : SetAt N cap a goals S (length goals) work
   pub few : S < 2 ^ length goals
   pub node : v < N .nodes
+
+-- r is held as the lesser of what best is held as, and the sum of the lengths that are held as x and y
+abbrev pub Bettered : ℕ → ℕ → ℕ → ℕ → Type 0
+Bettered x y best r =
+    (cap : ℕ) (p q s : Least) → cap < missing → x ≡ held cap p → y ≡ held cap q → held cap (some best) ≡ held cap s
+    → held cap (some r) ≡ held cap (lesser s (plus p q))
+
+-- r is the least length over the goals of the set S to v, by a work that has what tells it
+abbrev pub ReachedBy : ℕ → ℕ → ℕ → List ℕ → ℕ → Type 0
+ReachedBy cap S v work r =
+    (N : Net) (a : ℕ) (goals : List ℕ) → SetAsked N cap a goals S v work → r ≡ held cap (least (graph N) (closed N) (chosen goals S) a v)
+
+-- goal i of the set S is done, and so are the goals of S below it
+abbrev pub Puts : ℕ → ℕ → ℕ → List ℕ → List ℕ → Type 0
+Puts cap S i work after =
+    (N : Net) (a : ℕ) (goals : List ℕ) → S < 2 ^ length goals → FilledTo N cap a goals S i work → FilledTo N cap a goals S (i + 1) after
+
+-- the set S is done, and so are those below it
+abbrev pub FillsSet : ℕ → ℕ → List ℕ → List ℕ → Type 0
+FillsSet cap S work after =
+    (N : Net) (a : ℕ) (goals : List ℕ) → S < 2 ^ length goals → Filled N cap a goals S work → Filled N cap a goals (S + 1) after
+
+-- the sets of k goals are done
+abbrev pub FillsTable : ℕ → ℕ → List ℕ → List ℕ → Type 0
+FillsTable cap k work after =
+    (N : Net) (a : ℕ) (goals : List ℕ) → length goals ≡ k → Filled N cap a goals 0 work → Filled N cap a goals (2 ^ k) after
+
+-- r is the least length over k goals to v, by a table that is done
+abbrev pub ReachedAll : ℕ → ℕ → ℕ → List ℕ → ℕ → Type 0
+ReachedAll cap k v work r =
+    (N : Net) (a : ℕ) (goals : List ℕ) → length goals ≡ k → v < N .nodes → Filled N cap a goals (2 ^ k) work
+    → r ≡ held cap (least (graph N) (closed N) goals a v)
 
 -- room for the table, at most 8 goals, each entered at a node that a row has
 pub record TableFits (k : ℕ) (work : List ℕ) : Type 0 where

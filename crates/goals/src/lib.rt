@@ -7,8 +7,8 @@ ghost use Rattle.walks.specs.Goals.{entryOf, exitOf, ownOf};
 ghost use Rattle.walks.specs.Flat.{graphOf};
 ghost use Rattle.rows.specs.Held.{missing, held};
 ghost use Rattle.rows.specs.Net.{netOf, arcCount, Proper, Joins};
-use rows::FORBIDDEN;
 use rows::MISSING;
+use walks::FORBIDDEN;
 
 // What the three numbers of an arc are.
 const TAIL: usize = 0;
@@ -17,40 +17,40 @@ const HEAD: usize = 1;
 
 const WEIGHT: usize = 2;
 
-// The node where a walk comes to goal `g`.
-pub fn entry(nodes: usize, arcs: &[u32], g: usize) -> u32
-    requires { ⌜ Joins nodes (now arcs) × (nodes ≤ 64) × (g < nodes + arcCount (now arcs)) ⌝ }
-    ensures { λ r. ⌜ (r ≡ entryOf (graphOf nodes (now (arcs .entry))) g) × (r < nodes) ⌝ }
+// The node where a walk comes to the goal.
+pub fn entry(nodes: usize, arcs: &[u32], goal: usize) -> u32
+    requires { ⌜ Joins nodes (now arcs) × (nodes ≤ 64) × (goal < nodes + arcCount (now arcs)) ⌝ }
+    ensures { λ r. ⌜ (r ≡ entryOf (graphOf nodes (now (arcs .entry))) goal) × (r < nodes) ⌝ }
 {
-    if g < nodes {
-        return g as u32;
+    if goal < nodes {
+        return goal as u32;
     }
-    arcs[(g - nodes) * 3 + TAIL]
+    arcs[(goal - nodes) * 3 + TAIL]
 }
 
-// The node where a walk leaves goal `g`.
-pub fn exit(nodes: usize, arcs: &[u32], g: usize) -> usize
-    requires { ⌜ Joins nodes (now arcs) × (g < nodes + arcCount (now arcs)) ⌝ }
-    ensures { λ r. ⌜ (r ≡ exitOf (graphOf nodes (now (arcs .entry))) g) × (r < nodes) ⌝ }
+// The node where a walk leaves the goal.
+pub fn exit(nodes: usize, arcs: &[u32], goal: usize) -> usize
+    requires { ⌜ Joins nodes (now arcs) × (goal < nodes + arcCount (now arcs)) ⌝ }
+    ensures { λ r. ⌜ (r ≡ exitOf (graphOf nodes (now (arcs .entry))) goal) × (r < nodes) ⌝ }
 {
-    if g < nodes {
-        return g;
+    if goal < nodes {
+        return goal;
     }
-    arcs[(g - nodes) * 3 + HEAD] as usize
+    arcs[(goal - nodes) * 3 + HEAD] as usize
 }
 
-// The length of goal `g` itself.
-pub fn own(nodes: usize, arcs: &[u32], marks: &[u8], g: usize, cap: u32) -> u32
-    requires { ⌜ Proper (netOf nodes (now arcs) (now marks)) × (g < nodes + arcCount (now arcs)) ⌝ }
-    ensures { λ r. ⌜ r ≡ held cap (ownOf (graphOf nodes (now (arcs .entry))) (closedIn (now (marks .entry))) g) ⌝ }
+// The length of the goal itself.
+pub fn own(nodes: usize, arcs: &[u32], marks: &[u8], goal: usize, cap: u32) -> u32
+    requires { ⌜ Proper (netOf nodes (now arcs) (now marks)) × (goal < nodes + arcCount (now arcs)) ⌝ }
+    ensures { λ r. ⌜ r ≡ held cap (ownOf (graphOf nodes (now (arcs .entry))) (closedIn (now (marks .entry))) goal) ⌝ }
 {
-    if g < nodes {
+    if goal < nodes {
         return 0;
     }
-    if marks[g] == FORBIDDEN {
+    if marks[goal] == FORBIDDEN {
         return MISSING;
     }
-    let weight = arcs[(g - nodes) * 3 + WEIGHT];
+    let weight = arcs[(goal - nodes) * 3 + WEIGHT];
     if weight > cap {
         return MISSING;
     }

@@ -1,3 +1,4 @@
 pub mod CopyLaws
 pub mod ListingLaws
 pub mod ListedLaws
+pub mod PlaceLaws

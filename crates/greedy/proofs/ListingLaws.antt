@@ -4,20 +4,11 @@ use mathlib.Core.Path.{_≡_, refl, sym, ap, _∙_}
 use mathlib.Core.Bool.{true, false}
 use mathlib.Core.List.{List, [], _∷_, _++_, append-assoc, append-nil}
 use native.Mathlib.Omega.{arith}
-use lib.ListN.{length, drop, set, length-append}
-use lib.Seq.{drop-cons, set-append-seam}
+use lib.ListN.{length, set, length-append}
 use Rattle.lists.specs.Lists.{front}
+use Rattle.lists.proofs.FrontLaws.{push}
 use Rattle.walks.specs.Graph.{Graph, itemCount, closedIn, fits}
 use Rattle.reason_list.specs.Reasons.{greedy, reasons}
-
--- one more entry in front
-pub front-more : (xs d : List ℕ) (x : ℕ) → length xs < length d → set (front xs d) (length xs) x ≡ front (xs ++ x ∷ []) d
-front-more xs d x h =
-    let l : length (xs ++ x ∷ []) ≡ suc (length xs) = length-append xs (x ∷ []) ∙ omega arith in
-    ap (λ (r : List ℕ). set (xs ++ r) (length xs) x) (drop-cons d (length xs) 0 h)
-    ∙ set-append-seam xs _ (drop (suc (length xs)) d) x
-    ∙ sym (append-assoc xs (x ∷ []) (drop (suc (length xs)) d))
-    ∙ ap (λ (n : ℕ). (xs ++ x ∷ []) ++ drop n d) (sym l)
 
 module _ (G : Graph) (s t k : ℕ) (goals marks₀ list₀ : List ℕ) where
   -- the items below i are done: n of them are listed, in front of the list
@@ -81,7 +72,7 @@ module _ (G : Graph) (s t k : ℕ) (goals marks₀ list₀ : List ℕ) where
           ∙ sym (append-assoc (L .done) (i ∷ []) (greedy G s t k goals (itemCount G - (i + 1)) (i + 1) marks));
       written =
           ap (λ (l : List ℕ). set l n i) (L .written) ∙ ap (λ (m : ℕ). set (front (L .done) list₀) m i) (L .counted)
-          ∙ front-more (L .done) list₀ i (omega (arith, L .few, L .counted));
+          ∙ push (L .done) list₀ i (omega (arith, L .few, L .counted));
       counted = omega (arith, L .counted, length-append (L .done) (i ∷ []));
       few = omega (arith, L .few);
       blocked = L .blocked;

@@ -1,71 +1,113 @@
 -- What holds while the items are gone through.
-use Prim.Native.Nat.{ℕ, _+_, _≤_, _<_}
+use Prim.Native.Nat.{ℕ, _+_, _-_, _≤_, _<_}
 use mathlib.Core.Path.{_≡_}
 use mathlib.Core.Bool.{Bool, true, false, not}
 use mathlib.Core.List.{List}
-use lib.ListN.{length, getD, set}
-use Rattle.lists.specs.Lists.{Distinct, pick, front}
+use lib.ListN.{length, getD, set, take, drop}
+use Rattle.lists.specs.Lists.{Distinct, pick}
 use Rattle.walks.specs.Flat.{graphOf}
-use Rattle.walks.specs.Graph.{closedIn, fits}
+use Rattle.walks.specs.Graph.{Graph, closedIn, fits}
 use Rattle.rows.specs.Held.{missing}
-use Rattle.rows.specs.Net.{netOf, arcCount, Joins}
+use Rattle.rows.specs.Net.{Net, netOf, graph, closed, arcCount, Joins}
+use Rattle.rows.specs.Rows.{RowsAre, scratchNumbers}
+use Rattle.row_save.specs.Unmoved.{Entered}
 use Rattle.row_links.specs.Links.{Linked}
-use Rattle.rows.specs.Rows.{RowsAre}
-use Rattle.goal_table.specs.Table.{StartsAre, Noted}
+use Rattle.goal_table.specs.Table.{StartsAre, Rowed, Noted}
 
 -- What stays: the nodes and arcs, the target, the limit, the goals, and the starts of the rows, the first of which is the source.
-pub record Setting (n : ℕ) (xs : List ℕ) (to cap : ℕ) (goals starts : List ℕ) : Type 0 where
-  pub small : cap < missing
-  pub few : n ≤ 64
-  pub joins : Joins n xs
-  pub target : to < n
-  pub eight : length goals ≤ 8
-  pub below : (i : ℕ) → i < length goals → getD goals i 0 < n + arcCount xs
-  pub distinct : Distinct goals
-  pub begin : StartsAre (graphOf n xs) (getD starts 0 0) goals starts
-  pub counted : length starts ≡ length goals + 1
+pub record Task : Type 0 where
+  pub nodes : ℕ
+  pub arcs : List ℕ
+  pub to : ℕ
+  pub cap : ℕ
+  pub goals : List ℕ
+  pub starts : List ℕ
+
+-- the places are where so many rows start, and behind them the goals
+abbrev pub taskOf : ℕ → List ℕ → ℕ → ℕ → ℕ → List ℕ → Task
+taskOf n xs to cap rows places = record {
+  nodes = n;
+  arcs = xs;
+  to = to;
+  cap = cap;
+  goals = take (length places - rows) (drop rows places);
+  starts = take rows places;
+}
+
+abbrev pub map : Task → Graph
+map T = graphOf (T .nodes) (T .arcs)
+
+abbrev pub net : Task → List ℕ → Net
+net T marks = netOf (T .nodes) (T .arcs) marks
+
+abbrev pub source : Task → ℕ
+source T = getD (T .starts) 0 0
+
+abbrev pub items : Task → ℕ
+items T = T .nodes + arcCount (T .arcs)
+
+-- the ends are nodes, the goals different items of the graph, at most 8, and the rows start at the source and where each goal is left
+pub record Setting (T : Task) : Type 0 where
+  pub small : T .cap < missing
+  pub few : T .nodes ≤ 64
+  pub short : length (T .arcs) ≤ 1536
+  pub joins : Joins (T .nodes) (T .arcs)
+  pub target : T .to < T .nodes
+  pub eight : length (T .goals) ≤ 8
+  pub below : (i : ℕ) → i < length (T .goals) → getD (T .goals) i 0 < items T
+  pub distinct : Distinct (T .goals)
+  pub begin : StartsAre (map T) (source T) (T .goals) (T .starts)
+  pub counted : length (T .starts) ≡ length (T .goals) + 1
 
 -- some walk fits where the marks close
-abbrev pub fitsAt : ℕ → List ℕ → ℕ → ℕ → List ℕ → List ℕ → List ℕ → Bool
-fitsAt n xs to cap goals starts marks = fits (graphOf n xs) (getD starts 0 0) to cap (closedIn marks) goals
+abbrev pub fitsAt : Task → List ℕ → Bool
+fitsAt T marks = fits (map T) (source T) (T .to) (T .cap) (closedIn marks) (T .goals)
 
--- the work holds the rows and the goals' entries and own lengths for the marks
-pub record Ready (n : ℕ) (xs marks : List ℕ) (cap : ℕ) (goals starts work : List ℕ) : Type 0 where
-  pub rows : RowsAre (netOf n xs marks) cap starts (length starts) work
-  pub noted : Noted (netOf n xs marks) cap goals work
+-- the answer tells whether some walk fits, where the work has the rows
+abbrev pub Told : Net → ℕ → ℕ → ℕ → List ℕ → List ℕ → Bool → Type 0
+Told N a b cap goals work r = Rowed N cap a goals work → fits (graph N) a b cap (closed N) goals ≡ r
+
+-- the goals' entries and own lengths are noted, and the rows are as they were
+pub record NotedBeside (N : Net) (cap : ℕ) (goals work after : List ℕ) : Type 0 where
+  pub noted : Noted N cap goals after
+  pub front : take 576 after ≡ take 576 work
+
+-- the work holds the rows
+abbrev pub RowsFor : Task → List ℕ → List ℕ → Type 0
+RowsFor T marks work = RowsAre (net T marks) (T .cap) (T .starts) (length (T .starts)) work
+
+-- and the goals' entries and own lengths for the marks
+pub record Ready (T : Task) (marks work : List ℕ) : Type 0 where
+  pub rows : RowsFor T marks work
+  pub noted : Noted (net T marks) (T .cap) (T .goals) work
+
+-- while item i is open: the open arcs are linked, and the work tells where each goal is entered
+pub record InTurn (T : Task) (i : ℕ) (marks packed : List ℕ) (c : ℕ) (work : List ℕ) : Type 0 where
+  pub below : i < items T
+  pub marked : items T ≤ length marks
+  pub links : Linked (net T marks) c packed
+  pub long : length work ≡ scratchNumbers
+  pub entered : Entered (length (T .goals)) work
 
 -- Whether no walk fits once an item is opened: then the work holds what it has to for the marks, else the rows before are back.
-pub record TurnJudged (n : ℕ) (xs : List ℕ) (to cap : ℕ) (goals starts old marks after : List ℕ) (r : Bool) : Type 0 where
-  pub answer : fitsAt n xs to cap goals starts marks ≡ not r
-  pub opened : r ≡ true → Ready n xs marks cap goals starts after
-  pub back : r ≡ false → RowsAre (netOf n xs old) cap starts (length starts) after
+pub record TurnJudged (T : Task) (old marks after : List ℕ) (r : Bool) : Type 0 where
+  pub answer : fitsAt T marks ≡ not r
+  pub opened : r ≡ true → Ready T marks after
+  pub back : r ≡ false → RowsFor T old after
+
+-- so it is judged, where no walk fitted before item i was opened and the work was ready for the marks as they were
+abbrev pub Judges : Task → ℕ → List ℕ → List ℕ → List ℕ → Bool → Type 0
+Judges T i marks work after r = (old : List ℕ) → marks ≡ set old i 0 → Ready T old work → fitsAt T old ≡ false → TurnJudged T old marks after r
 
 -- what holds whenever the next item is taken: the open arcs are linked, the work is ready, and no walk fits
-pub record State (n : ℕ) (xs marks : List ℕ) (to cap : ℕ) (goals starts packed : List ℕ) (c : ℕ) (work : List ℕ) : Type 0 where
-  pub marked : n + arcCount xs ≤ length marks
-  pub links : Linked (netOf n xs marks) c packed
-  pub long : length work ≡ 3648
-  pub ready : Ready n xs marks cap goals starts work
-  pub blocked : fitsAt n xs to cap goals starts marks ≡ false
+pub record State (T : Task) (marks packed : List ℕ) (c : ℕ) (work : List ℕ) : Type 0 where
+  pub marked : items T ≤ length marks
+  pub links : Linked (net T marks) c packed
+  pub long : length work ≡ scratchNumbers
+  pub ready : Ready T marks work
+  pub blocked : fitsAt T marks ≡ false
 
 -- What a turn does with item i: nothing where it is open; else it is opened, and closed again and listed where a walk fits then.
-pub record Turned (n : ℕ) (xs : List ℕ) (to cap : ℕ) (goals starts marks : List ℕ) (i : ℕ) (after : List ℕ) (listed : Bool) : Type 0 where
+pub record Turned (T : Task) (marks : List ℕ) (i : ℕ) (after : List ℕ) (listed : Bool) : Type 0 where
   pub passed : closedIn marks i ≡ false → (listed ≡ false) × (after ≡ marks)
-  pub tried : closedIn marks i ≡ true → (fitsAt n xs to cap goals starts (set marks i 0) ≡ listed) × (after ≡ pick listed marks (set marks i 0))
-
--- an item is put behind the n listed ones, if it is to be listed
-pub record PutDown (list : List ℕ) (n i : ℕ) (listed : Bool) (after : List ℕ) (r : ℕ) : Type 0 where
-  pub there : listed ≡ true → (after ≡ set list n i) × (r ≡ n + 1)
-  pub away : listed ≡ false → (after ≡ list) × (r ≡ n)
-
--- what is made ready before the first turn
-pub record Begun (n : ℕ) (xs marks : List ℕ) (from to cap : ℕ) (goals starts packed : List ℕ) (c : ℕ) (work : List ℕ) : Type 0 where
-  pub setting : Setting n xs to cap goals starts
-  pub source : getD starts 0 0 ≡ from
-  pub links : Linked (netOf n xs marks) c packed
-  pub ready : Ready n xs marks cap goals starts work
-
--- the items xs are written to the front of a list, and r is their count
-pub record Listed (xs list after : List ℕ) (r : ℕ) : Type 0 where
-  pub written : after ≡ front xs list
-  pub counted : r ≡ length xs
+  pub tried : closedIn marks i ≡ true → (fitsAt T (set marks i 0) ≡ listed) × (after ≡ pick listed marks (set marks i 0))

@@ -73,6 +73,6 @@ module _ {h : Header} {arcs marks rows : List ℕ} (R : Rows h arcs marks rows) 
 -- all goals together
 pub goals-fit : (h : Header) (arcs marks goals : List ℕ) (x : ℕ) → h .limit ≤ 1000000
     → x ≡ code (atMost (h .limit) (least (graphOf (h .nodes) arcs) (closedIn marks) goals (h .source) (h .target)))
-    → leb x (h .limit) ≡ fitsSheet (sheetOf h arcs marks) goals
-unfolding fitsSheet fits isForbidden held
+    → leb x (h .limit) ≡ fits (graphOf (h .nodes) arcs) (h .source) (h .target) (h .limit) (closedIn marks) goals
+unfolding fits held
 goals-fit h arcs marks goals x l e = rw e (held-within (h .limit) (least (graphOf (h .nodes) arcs) (closedIn marks) goals (h .source) (h .target)) (omega arith))

@@ -1,2 +1,3 @@
 pub mod FitLaws
 pub mod RowsLaws
+pub mod AskedLaws

@@ -6,7 +6,7 @@ use native.Mathlib.Omega.{arith}
 use native.Mathlib.Numerals.{add-one}
 use lib.ListN.{length, take, drop, set, drop-of-length-le, length-append, length-take, length-drop, length-set}
 use lib.Seq.{drop-cons, set-append-seam, append-snoc, take-all, take-at, drop-at, drop-drop}
-use Rattle.lists.specs.Lists.{front}
+use Rattle.lists.specs.Lists.{front, Put}
 
 pub length-front : (xs d : List ℕ) → length xs ≤ length d → length (front xs d) ≡ length d
 length-front xs d h = simp (length-append, length-drop) (omega arith)
@@ -33,10 +33,6 @@ part-front xs vs d out at ys a e h y =
     let none : drop (length out - at) (drop at d) ≡ [] = drop-of-length-le (drop at d) m in
     let l : length (xs ++ vs) ≡ at + length vs = simp length-append (omega arith) in
     rw (y, f, t, all, none, append-nil, drop-drop, l) (sym (append-assoc xs vs _))
-
--- the bytes bs were written over the front of d, up to `at`: what a writer ensures
-abbrev pub Put : List ℕ → List ℕ → List ℕ → ℕ → Type 0
-Put bs d out at = (at ≡ length bs) × (out ≡ front bs d)
 
 pub put-none : (d : List ℕ) → Put [] d d 0
 put-none d = (refl, refl)

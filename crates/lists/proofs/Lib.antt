@@ -4,3 +4,4 @@ pub mod Pigeonhole
 pub mod AscendLaws
 pub mod FrontLaws
 pub mod RowLaws
+pub mod TestedLaws

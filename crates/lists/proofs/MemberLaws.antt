@@ -1,9 +1,11 @@
 -- Laws on the entries of lists. Assumes nothing.
-use Prim.Native.Nat.{ℕ}
+use Prim.Native.Nat.{ℕ, zero, suc, _<_}
 use mathlib.Core.Path.{_≡_, refl, sym, ap, _∙_}
 use mathlib.Core.Logic.{_⊎_, inl, inr, ⊎-elim}
-use mathlib.Core.Bool.{Bool, true, false, _||_, false≢true}
+use mathlib.Core.Bool.{Bool, true, false, _||_, false≢true, true≢false}
 use mathlib.Core.List.{List, [], _∷_}
+use native.Mathlib.Omega.{arith}
+use lib.ListN.{length, getD}
 use lib.Dec.{eqb}
 use borrow.Author.Tests.{eqb-true, eq-eqb}
 use Rattle.lists.proofs.TestLaws.{and-true, true-and, true-or}
@@ -78,3 +80,22 @@ pub every-all : (f : ℕ → Bool) (xs : List ℕ) → ((x : ℕ) → member x x
 unfolding every
 every-all f [] h = refl
 every-all f (y ∷ ys) h = true-and (h y (member-head y ys)) (every-all f ys (λ x q. h x (member-tail x y ys q)))
+
+-- an entry of a list has a place
+pub member-place : (x : ℕ) (xs : List ℕ) → member x xs ≡ true → (k : ℕ) × (k < length xs) × (x ≡ getD xs k 0)
+member-place x [] m = absurd (member-none x m)
+member-place x (y ∷ ys) m = go (member-cases x y ys m) (member-place x ys)
+  where
+    go : (x ≡ y) ⊎ (member x ys ≡ true) → (member x ys ≡ true → (k : ℕ) × (k < length ys) × (x ≡ getD ys k 0))
+        → (k : ℕ) × (k < length (y ∷ ys)) × (x ≡ getD (y ∷ ys) k 0)
+    go (inl q) ih = (0, omega arith, q)
+    go (inr q) ih = let t = ih q in (suc (t .0), omega (arith, t .1), t .2)
+
+-- and what stands at a place is an entry
+pub place-member : (xs : List ℕ) (j : ℕ) → j < length xs → member (getD xs j 0) xs ≡ true
+place-member [] j h = absurd (omega arith)
+place-member (y ∷ ys) zero h = member-head y ys
+place-member (y ∷ ys) (suc j) h = member-tail (getD ys j 0) y ys (place-member ys j (omega arith))
+
+pub member-away : (x : ℕ) (xs : List ℕ) → member x xs ≡ false → (j : ℕ) → j < length xs → getD xs j 0 ≡ x → ⊥
+member-away x xs e j h q = true≢false (sym (rw q at (place-member xs j h)) ∙ e)

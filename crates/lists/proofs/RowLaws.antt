@@ -7,7 +7,8 @@ use native.Mathlib.Omega.{arith}
 use native.Mathlib.Numerals.{add-one}
 use lib.ListN.{length, getD, set, take, drop, length-append, take-append-drop}
 use lib.Seq.{take-suc, take-all}
-use Rattle.lists.proofs.FrontLaws.{Put, put-none, Room, put-kept, put-within, put-room, put-end, put-on, byte-within, put-byte}
+use Rattle.lists.proofs.FrontLaws.{put-none, Room, put-kept, put-within, put-room, put-end, put-on, byte-within, put-byte}
+use Rattle.lists.specs.Lists.{Put}
 
 -- `row` writes numbers in a row, each as `one` writes it
 pub record Rows (one : ℕ → List ℕ) (row : List ℕ → List ℕ) : Type 0 where

@@ -52,3 +52,7 @@ Distinct (x ∷ xs) = (member x xs ≡ false) × Distinct xs
 -- the list d with xs over its front
 abbrev pub front : List ℕ → List ℕ → List ℕ
 front xs d = xs ++ drop (length xs) d
+
+-- xs stands over the front of d, and n counts it: what a function that writes gives and leaves
+abbrev pub Put : List ℕ → List ℕ → List ℕ → ℕ → Type 0
+Put xs d out n = (n ≡ length xs) × (out ≡ front xs d)

@@ -3,7 +3,7 @@ ghost use mathlib.Core.Path.{_≡_};
 ghost use mathlib.Core.Bool.{true};
 ghost use Prim.Native.Nat.{_+_, _≤_, _<_};
 ghost use lib.ListN.{length, drop};
-ghost use Rattle.lists.specs.Lists.{front};
+ghost use Rattle.lists.specs.Lists.{front, Put};
 ghost use Rattle.varint.specs.Varint.{readNumber, several, writeNumbers};
 ghost use Rattle.numbers.specs.Begun.{begun};
 ghost use Rattle.varint.specs.Answer.{small};
@@ -67,7 +67,7 @@ pub fn numbers_at(bytes: &[u8], from: usize, count: usize, out: &mut [usize])
 // Writes the numbers in a row over the front of `out` and gives the count of bytes.
 pub fn put_numbers(out: &mut [u8], numbers: &[u32]) -> usize
     requires { ⌜ (small (now numbers) ≡ true) × (length (writeNumbers (now numbers)) ≤ length (now out)) ⌝ }
-    ensures { λ r. ⌜ (r ≡ length (writeNumbers (now (numbers .entry)))) × (now (out .exit) ≡ front (writeNumbers (now (numbers .entry))) (now (out .entry))) ⌝ }
+    ensures { λ r. ⌜ Put (writeNumbers (now (numbers .entry))) (now (out .entry)) (now (out .exit)) r ⌝ }
 {
     let mut at: usize = 0;
     let mut j: usize = 0;
@@ -81,7 +81,7 @@ pub fn put_numbers(out: &mut [u8], numbers: &[u32]) -> usize
 // The same for indices.
 pub fn put_indices(out: &mut [u8], indices: &[usize]) -> usize
     requires { ⌜ (small (now indices) ≡ true) × (length (writeNumbers (now indices)) ≤ length (now out)) ⌝ }
-    ensures { λ r. ⌜ (r ≡ length (writeNumbers (now (indices .entry)))) × (now (out .exit) ≡ front (writeNumbers (now (indices .entry))) (now (out .entry))) ⌝ }
+    ensures { λ r. ⌜ Put (writeNumbers (now (indices .entry))) (now (out .entry)) (now (out .exit)) r ⌝ }
 {
     let mut at: usize = 0;
     let mut j: usize = 0;

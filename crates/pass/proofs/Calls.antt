@@ -3,23 +3,20 @@
 use Prim.Native.Nat.{ℕ, _<_}
 use mathlib.Core.Path.{_≡_, refl, sym, ap, _∙_}
 use mathlib.Core.Logic.{_↔_}
-use mathlib.Core.Bool.{Bool, true, false}
+use mathlib.Core.Bool.{true}
 use mathlib.Core.List.{List, [], _∷_}
 use native.Mathlib.Omega.{arith}
-use lib.ListN.{length, drop}
-use lib.Seq.{take-at}
-use lib.Dec.{ltb}
-use Rattle.sheet.proofs.RefusalLaws.{taken-refuses}
-use Rattle.sheet.specs.Lent.{workNumbers}
 use Rattle.sheet.specs.Sheet.{Sheet, isOpen}
 use Rattle.sheet.specs.Slip.{Slip, readSlip}
 use Rattle.varint.specs.Varint.{Read, got, refuse, after}
-use Rattle.pass_rules.proofs.AcceptedLaws.{accepted-taken, accepted-got}
+use Rattle.pass.proofs.OutcomeLaws.{call-writes}
+use Rattle.pass_rules.proofs.WithinLaws.{pass-within}
+use Rattle.pass_rules.proofs.AcceptedLaws.{accepted-got}
 use Rattle.pass_rules.proofs.Demand2.{Refusal, finished-is, verdict-in, prune-exact, refuse-exact, is-refused}
 use Rattle.pass_rules.proofs.VerdictLaws.{NoWalkOn}
 use Rattle.pass_rules.specs.Accepted.{accepted}
-use Rattle.pass_rules.specs.Pass.{finished, answerOf, outcome, lentEnough, passOn, passed, written, verdictIn, markIn, Refuses}
-use Rattle.pass_rules.specs.Verdict.{verdict, slipFor, passSlip}
+use Rattle.pass_rules.specs.Pass.{finished, answerOf, passOn, passed, written, verdictIn, markIn, Refuses}
+use Rattle.pass_rules.specs.Verdict.{verdict, slipFor}
 use Rattle.walks.specs.Graph.{itemCount}
 
 -- a call that answers 0: the sheet is accepted, and the stated slip stands in front
@@ -29,24 +26,12 @@ pub record Finished (sheet work slip : List ℕ) : Type 0 where
   pub writes : passOn sheet ≡ finished (written (passed sheet work slip))
 
 pub call-finished : (sheet work slip : List ℕ) → passed sheet work slip .number ≡ 0 → Finished sheet work slip
-unfolding passed lentEnough outcome passOn answerOf after
-call-finished sheet work slip = go (ltb (length work) workNumbers) refl (ltb (length slip) 1200) refl (accepted sheet) refl
+unfolding passed passOn answerOf after
+call-finished sheet work slip z = go (accepted sheet) refl (call-writes (passOn sheet) work slip (pass-within sheet) z)
   where
-    go : (a : Bool) → ltb (length work) workNumbers ≡ a → (b : Bool) → ltb (length slip) 1200 ≡ b → (r : Read Sheet) → accepted sheet ≡ r
-        → passed sheet work slip .number ≡ 0 → Finished sheet work slip
-    go true p b q r e z = absurd (let y : _≡_ {A = ℕ} 1 0 = rw p at z in omega arith)
-    go false p true q r e z = absurd (let y : _≡_ {A = ℕ} 2 0 = rw (p, q) at z in omega arith)
-    go false p false q (refuse w) e z =
-        let y : w ≡ 0 = rw (p, q, e) at z in
-        let t = taken-refuses sheet w (sym (accepted-taken sheet) ∙ e) in
-        absurd (omega (arith, t .0))
-    go false p false q (got S rest) e z =
-        let n = accepted-got sheet S rest e .1 in
-        record {
-          read = S;
-          accepts = e ∙ ap (got S) n;
-          writes = rw (p, q, e) (ap finished (sym (take-at (passSlip S (verdict S)) (drop (length (passSlip S (verdict S))) slip) (length (passSlip S (verdict S))) refl)));
-        }
+    go : (r : Read Sheet) → accepted sheet ≡ r → passOn sheet ≡ finished (written (passed sheet work slip)) → Finished sheet work slip
+    go (refuse w) e f = absurd (let y : _≡_ {A = ℕ} 0 1 = cc (rw e at f) in omega arith)
+    go (got S rest) e f = record { read = S; accepts = e ∙ ap (got S) (accepted-got sheet S rest e .1); writes = f }
 
 module _ (sheet work slip : List ℕ) (z : passed sheet work slip .number ≡ 0) where
   -- a call that answers 0 with verdict 0 has struck off an open item exactly when no walk through it keeps to the limit

@@ -3,21 +3,19 @@ ghost use mathlib.Core.Path.{_≡_};
 ghost use mathlib.Core.List.{_∷_};
 ghost use Prim.Native.Nat.{_+_, _≤_, _<_};
 ghost use lib.ListN.{length};
-ghost use Rattle.lists.specs.Lists.{front};
+ghost use Rattle.lists.specs.Lists.{front, Put};
 ghost use Rattle.pass_rules.specs.Verdict.{newMark, newMarks};
 ghost use Rattle.sheet_required.specs.Held.{sheetOf, Whole};
 ghost use Rattle.item_fits.specs.Rows.{Rows};
 ghost use Rattle.pass_marks.specs.ForcedNodes.{ForcedNodes};
 use sheet::Header;
-
-const OPEN: u8 = 0;
-
-const MANDATORY: u8 = 1;
-
-const FORBIDDEN: u8 = 2;
+use walks::FORBIDDEN;
+use walks::MANDATORY;
+use walks::NODES;
+use walks::OPEN;
 
 // The nodes that become mandatory where they are open, marked 1: source, target and the ends of mandatory arcs.
-fn forced_nodes(header: Header, arcs: &[u32], marks: &[u8]) -> [u8; 64]
+fn forced_nodes(header: Header, arcs: &[u32], marks: &[u8]) -> [u8; NODES]
     requires { ⌜ Whole header (now arcs) (now marks) ⌝ }
     ensures { λ r. ⌜ ForcedNodes (sheetOf header (now (arcs .entry)) (now (marks .entry))) r ⌝ }
 {
@@ -80,8 +78,7 @@ pub fn write_stands(
     slip: &mut [u8],
 ) -> usize
     requires { ⌜ Rows header (now arcs) (now marks) (now rows) × (1200 ≤ length (now slip)) ⌝ }
-    ensures { λ r. ⌜ r ≡ length (0 ∷ newMarks (sheetOf header (now (arcs .entry)) (now (marks .entry)))) ⌝ }
-    ensures { λ _. ⌜ now (slip .exit) ≡ front (0 ∷ newMarks (sheetOf header (now (arcs .entry)) (now (marks .entry)))) (now (slip .entry)) ⌝ }
+    ensures { λ r. ⌜ Put (0 ∷ newMarks (sheetOf header (now (arcs .entry)) (now (marks .entry)))) (now (slip .entry)) (now (slip .exit)) r ⌝ }
 {
     slip[0] = 0;
     put_marks(header, arcs, marks, rows, &mut slip[1..]);

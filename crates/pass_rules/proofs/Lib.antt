@@ -4,3 +4,4 @@ pub mod SlipOfPass
 pub mod RouteLaws
 pub mod ForcedLaws
 pub mod Demand2
+pub mod WithinLaws

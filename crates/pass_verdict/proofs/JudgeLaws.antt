@@ -8,7 +8,9 @@ use lib.ListN.{length, getD, take}
 use lib.Dec.{eqb}
 use borrow.Author.Tests.{ne-eqb}
 use Rattle.sheet.specs.declared.Header.{Header}
-use Rattle.goal_table.specs.Table.{GoalsFit}
+use Rattle.goal_table.specs.Table.{Rowed}
+use Rattle.item_fits.proofs.AskedLaws.{whole-sought}
+use Rattle.item_fits.specs.Asked.{Sought}
 use Rattle.lists.proofs.AscendLaws.{ascends-distinct, keep-none, keep-first, span-member}
 use Rattle.lists.proofs.MemberLaws.{keep-member, member-head}
 use Rattle.sheet_required.proofs.HeldLaws.{items-are, goals-at}
@@ -22,9 +24,6 @@ use Rattle.walks.specs.Graph.{itemCount}
 use Rattle.pass_verdict.specs.VerdictFound.{VerdictFound}
 
 module _ {h : Header} {arcs marks : List ℕ} (W : Whole h arcs marks) where
-  abbrev S : Sheet
-  S = sheetOf h arcs marks
-
   -- the item is mandatory, and no walk meets it
   abbrev pub missed : ℕ → Bool
   missed i = isMandatory (sheetOf h arcs marks) i && not (fitsSheet (sheetOf h arcs marks) (i ∷ []))
@@ -59,31 +58,37 @@ module _ {h : Header} {arcs marks : List ℕ} (W : Whole h arcs marks) where
           absurd (omega (arith, s .1, items-are W, z))
 
   -- the required nodes as goals
-  pub required-fit : GoalsFit (netOf (h .nodes) arcs marks) (required (sheetOf h arcs marks))
-  required-fit = record {
+  pub required-sought : Sought h arcs marks (required (sheetOf h arcs marks))
+  required-sought = whole-sought W (record {
     eight = W .eight;
     below = λ i l. omega (arith, goals-at (h .nodes) i (required (sheetOf h arcs marks)) (required-below (sheetOf h arcs marks)) l);
     distinct = ascends-distinct (required (sheetOf h arcs marks)) (required-ascend (sheetOf h arcs marks));
-  }
+  })
+
+-- the four verdicts
+module _ (h : Header) (arcs marks list scratch : List ℕ) where
+  abbrev S : Sheet
+  S = sheetOf h arcs marks
+
+  pub judged-one : fitsSheet S [] ≡ false → VerdictFound h arcs marks (record { number = 1; count = 0 }) list scratch
+  unfolding verdict verdictFrom
+  judged-one e = record { number = rw e; goals = rw e; count = omega arith; rowed = λ q. absurd (omega arith) }
+
+  pub judged-two : (i : ℕ) (is : List ℕ) → fitsSheet S [] ≡ true → unmet S ≡ i ∷ is → take 1 list ≡ i ∷ [] → VerdictFound h arcs marks (record { number = 2; count = 1 }) list scratch
+  unfolding verdict verdictFrom
+  judged-two i is e u t = record { number = rw (e, u); goals = rw (e, u) t; count = omega arith; rowed = λ q. absurd (omega arith) }
+
+  module _ (e : fitsSheet S [] ≡ true) (u : unmet S ≡ []) where
+    pub judged-three : (n : ℕ) → fitsSheet S (required S) ≡ false → take n list ≡ required S → n ≤ 8
+        → Rowed (netOf (h .nodes) arcs marks) (h .limit) (h .source) (take n list) scratch → VerdictFound h arcs marks (record { number = 3; count = n }) list scratch
+    unfolding verdict verdictFrom
+    judged-three n f t l r = record { number = rw (e, u, f); goals = rw (e, u, f) t; count = l; rowed = λ q. r }
+
+    pub judged-zero : fitsSheet S (required S) ≡ true → VerdictFound h arcs marks (record { number = 0; count = 0 }) list scratch
+    unfolding verdict verdictFrom
+    judged-zero f = record { number = rw (e, u, f); goals = rw (e, u, f); count = omega arith; rowed = λ q. absurd (omega arith) }
 
 module _ (S : Sheet) where
-  pub judged-one : (list : List ℕ) → fitsSheet S [] ≡ false → VerdictFound S (record { number = 1; count = 0 }) list
-  unfolding verdict verdictFrom
-  judged-one list e = record { number = rw e; goals = rw e; count = omega arith }
-
-  pub judged-two : (i : ℕ) (is list : List ℕ) → fitsSheet S [] ≡ true → unmet S ≡ i ∷ is → take 1 list ≡ i ∷ [] → VerdictFound S (record { number = 2; count = 1 }) list
-  unfolding verdict verdictFrom
-  judged-two i is list e u t = record { number = rw (e, u); goals = rw (e, u) t; count = omega arith }
-
-  pub judged-three : (n : ℕ) (list : List ℕ) → fitsSheet S [] ≡ true → unmet S ≡ [] → fitsSheet S (required S) ≡ false → take n list ≡ required S → n ≤ 8
-      → VerdictFound S (record { number = 3; count = n }) list
-  unfolding verdict verdictFrom
-  judged-three n list e u f t l = record { number = rw (e, u, f); goals = rw (e, u, f) t; count = l }
-
-  pub judged-zero : (list : List ℕ) → fitsSheet S [] ≡ true → unmet S ≡ [] → fitsSheet S (required S) ≡ true → VerdictFound S (record { number = 0; count = 0 }) list
-  unfolding verdict verdictFrom
-  judged-zero list e u f = record { number = rw (e, u, f); goals = rw (e, u, f); count = omega arith }
-
   -- with nothing required, what any walk meets is met
   pub nothing-required : fitsSheet S [] ≡ true → length (required S) ≡ 0 → fitsSheet S (required S) ≡ true
   nothing-required e l = go (required S) refl l

@@ -1,13 +1,14 @@
 -- The layer answers and leaves what copying the work in, running the operation over those numbers and copying them out would: numbers made of bytes give these
 -- bytes back, and numbers that are zero give bytes that are zero. Assumes nothing.
 use Prim.Native.Nat.{ℕ, zero, suc, _+_, _*_, _≤_, _<_, _/_, _%_}
-use mathlib.Core.Path.{_≡_, refl, sym, ap, _∙_, subst}
+use mathlib.Core.Path.{_≡_, refl, sym, ap, _∙_}
 use mathlib.Core.Bool.{Bool, true, false}
 use mathlib.Core.List.{List, [], _∷_, _++_, append-nil}
 use native.Mathlib.Omega.{arith}
 use lib.ListN.{length, take, drop, drop-of-length-le, length-replicate, take-append-drop}
 use lib.Seq.{length-take-le}
-use lib.Dec.{leb}
+use lib.Dec.{leb, ltb}
+use borrow.Author.Tests.{le-ltb}
 use Rattle.lists.proofs.Pigeonhole.{Below}
 use Rattle.lists.specs.Lists.{pick, front}
 use Rattle.reason_rules.specs.Reason.{reasonOn, reasoned}
@@ -18,13 +19,9 @@ use Rattle.pass_rules.specs.Pass.{Answer, finished, refused, passOn, passed}
 use Rattle.check_rules.specs.Check as check
 use Rattle.check_rules.specs.Check.{checkOn, checked}
 use Rattle.planner.specs.Copied.{numbersOf, workBytesOf, copiedOut, checkCopiedOut}
-use Rattle.work.specs.Bytes.{zeroedBytes, bytesAfter, leftBytes}
+use Rattle.work.specs.Bytes.{zeroedBytes, bytesAfter}
 use Rattle.planner.specs.Layer.{bytesOutcome, bytesEnough, passedBytes, reasonedBytes}
-use Rattle.planner.specs.Check.{checkedBytes}
-use Rattle.work.proofs.BytesLaws.{left-finished, left-refused}
-use Rattle.planner.proofs.LayerLaws.{Within, in-bytes, enough, enough-within}
-use Rattle.planner.proofs.CheckLaws.{Drawn, check-in-bytes, over-numbers}
-use Rattle.planner.proofs.WithinLaws.{pass-within, reason-within, check-drawn}
+use Rattle.planner.specs.Check.{checkBytesOutcome, checkedBytes}
 
 -- a number made of four bytes gives them back
 number-back : (a b c d : ℕ) (xs : List ℕ) → a < 256 → b < 256 → c < 256 → d < 256
@@ -93,9 +90,9 @@ module _ (work : List ℕ) (h : 65536 ≤ length work) (b : Below 256 work) wher
       let e : workBytesOf numbers ≡ take 65536 work = bytes-back 16384 work b h in
       ap (λ (xs : List ℕ). front xs work) e ∙ ap (λ (k : ℕ). take 65536 work ++ drop k work) (length-take-le 65536 work h) ∙ take-append-drop 65536 work
 
-  refused-out : (e : ℕ) → 1 ≤ e → front (workBytesOf (workAfter e numbers)) work ≡ leftBytes e work
+  refused-out : (e : ℕ) → front (workBytesOf (workAfter e numbers)) work ≡ bytesAfter e work
   unfolding workAfter bytesAfter
-  refused-out e l = go (leb e 13) ∙ sym (left-refused e work l)
+  refused-out e = go (leb e 13)
     where
       go : (t : Bool) → front (workBytesOf (pick t numbers (zeroed numbers))) work ≡ pick t work (zeroedBytes work)
       go true = same-out
@@ -104,32 +101,29 @@ module _ (work : List ℕ) (h : 65536 ≤ length work) (b : Below 256 work) wher
   numbers-lent : 16384 ≤ length numbers
   numbers-lent = omega (arith, length-numbers 16384 work)
 
-  answer-out : (slip : List ℕ) (x : Answer) → Within x → front (workBytesOf (pass.outcome x numbers slip .work)) work ≡ leftBytes (pass.outcome x numbers slip .number) work
-  unfolding pass.outcome
-  answer-out slip (finished bytes) l = zero-out ∙ sym (left-finished 0 work refl)
-  answer-out slip (refused e) l = refused-out e (l .0)
+  -- what an answer leaves over numbers, copied out, is what it leaves over bytes
+  answer-out : (slip : List ℕ) (a : Answer) → copiedOut (pass.outcome a numbers slip) work ≡ bytesOutcome a work slip
+  unfolding pass.outcome bytesOutcome
+  answer-out slip (finished bytes) = rw zero-out (ap (λ (n : ℕ). record { number = n; work = zeroedBytes work; slip = front bytes slip }) (omega arith))
+  answer-out slip (refused e) = rw (refused-out e) (ap (λ (n : ℕ). record { number = n; work = bytesAfter e work; slip = slip }) (omega arith))
 
-  copied : (slip : List ℕ) (a : Answer) → Within a → copiedOut (pass.outcome (pass.lentEnough numbers slip a) numbers slip) work ≡ bytesOutcome (bytesEnough work slip a) work slip
-  copied slip a w =
-      let l : Within (pass.lentEnough numbers slip a) = subst Within (sym (enough numbers work slip numbers-lent h a w)) (enough-within numbers work slip numbers-lent h a w) in
-      in-bytes numbers work slip numbers-lent h a w (pass.outcome (pass.lentEnough numbers slip a) numbers slip) refl refl (answer-out slip (pass.lentEnough numbers slip a) l)
+  copied : (slip : List ℕ) (a : Answer) → bytesOutcome (bytesEnough work slip a) work slip ≡ copiedOut (pass.outcome (pass.lentEnough numbers slip a) numbers slip) work
+  unfolding pass.lentEnough bytesEnough
+  copied slip a = rw (le-ltb (length numbers) 16384 numbers-lent, le-ltb (length work) 65536 h) (sym (answer-out slip (pick (ltb (length slip) 1200) (refused 2) a)))
 
-  check-out : (r : Read Bool) → Drawn r → front (workBytesOf (check.checkOutcome r numbers .work)) work ≡ leftBytes (check.checkOutcome r numbers .number) work
-  unfolding check.checkOutcome
-  check-out (got answer rest) l = zero-out ∙ sym (left-finished 0 work refl)
-  check-out (refuse e) l = refused-out e (l .0)
+  check-out : (r : Read Bool) → checkCopiedOut (check.checkOutcome r numbers) work ≡ checkBytesOutcome r work
+  unfolding check.checkOutcome checkBytesOutcome
+  check-out (got answer rest) = rw zero-out (ap (λ (n : ℕ). record { number = n; work = zeroedBytes work }) (omega arith))
+  check-out (refuse e) = rw (refused-out e) (ap (λ (n : ℕ). record { number = n; work = bytesAfter e work }) (omega arith))
 
   pub pass-copied : (sheet slip : List ℕ) → passedBytes sheet work slip ≡ copiedOut (passed sheet (numbersOf 16384 work) slip) work
   unfolding passedBytes passed
-  pass-copied sheet slip = sym (copied slip (passOn sheet) (pass-within sheet))
+  pass-copied sheet slip = copied slip (passOn sheet)
 
   pub reason-copied : (sheet slip : List ℕ) (i : ℕ) → reasonedBytes sheet work slip i ≡ copiedOut (reasoned sheet (numbersOf 16384 work) slip i) work
   unfolding reasonedBytes reasoned
-  reason-copied sheet slip i = sym (copied slip (reasonOn sheet i) (reason-within sheet i))
+  reason-copied sheet slip i = copied slip (reasonOn sheet i)
 
   pub check-copied : (sheet slip : List ℕ) → checkedBytes sheet work slip ≡ checkCopiedOut (checked sheet (numbersOf 16384 work) slip) work
-  check-copied sheet slip =
-      let d = check-drawn sheet slip in
-      let e = over-numbers sheet numbers work slip numbers-lent h d in
-      let l : front (workBytesOf (checked sheet numbers slip .work)) work ≡ leftBytes (checked sheet numbers slip .number) work = rw e (check-out (checkOn sheet slip) d) in
-      sym (check-in-bytes sheet numbers work slip numbers-lent h d (checked sheet numbers slip) refl refl l)
+  unfolding checkedBytes checked
+  check-copied sheet slip = rw (le-ltb (length numbers) 16384 numbers-lent, le-ltb (length work) 65536 h) (sym (check-out (checkOn sheet slip)))

@@ -1,5 +1,4 @@
 pub mod LayerLaws
-pub mod WithinLaws
 pub mod CheckLaws
 pub mod CopyLaws
 pub mod Calls

@@ -1,16 +1,22 @@
 // The planner's layer (document 01, 'The operations and what they refuse'): the operations for a program in C, with numbers and byte slices alone.
 //
 // The work is lent as bytes, four per number, low byte first. What its numbers hold has no effect on an answer, and an operation leaves them as found or zero;
-// so each call lends the operation numbers of its own, and the bytes are left as found or zeroed by the same rule. That this is what copying the bytes in and
+// so each call lends the operation nothing of them, and the bytes are left as found or zeroed by the same rule. That this is what copying the bytes in and
 // the numbers out would give are the laws `pass-copied`, `reason-copied` and `check-copied`.
 ghost use mathlib.Core.Path.{_≡_};
 ghost use Prim.Native.Nat.{_+_, _*_, _≤_};
 ghost use Rattle.planner.specs.Layer.{passedBytes, reasonedBytes};
 ghost use Rattle.planner.specs.Check.{yesNumber, checkedBytes};
+use pass::SLIP_BYTES;
 use work::WORK_BYTES;
 
 // What a refusal number counts in the one number of a call.
 const REFUSAL: u32 = 65536;
+
+// The one numbers of a call that is lent too little work, and of one that is lent too short a slip.
+const SHORT_WORK: u32 = REFUSAL;
+
+const SHORT_SLIP: u32 = 2 * REFUSAL;
 
 // The one number of a call: the refusal and the slip's length, or 1 for yes.
 fn one_number(number: u32, length: usize) -> u32
@@ -30,28 +36,34 @@ fn yes_number(yes: bool) -> usize
 // Pass for a program in C.
 #[no_mangle]
 pub extern "C" fn ways_pass(sheet: &[u8], work: &mut [u8], slip: &mut [u8]) -> u32
-    ensures { λ r. ⌜ record { number = r; work = now (work .exit); slip = now (slip .exit) } ≡ passedBytes (now (sheet .entry)) (now (work .entry)) (now (slip .entry)) ⌝ }
+    ensures { λ r. ⌜ record { number = r; work = now (work .exit); slip = now (slip .exit) }
+        ≡ passedBytes (now (sheet .entry)) (now (work .entry)) (now (slip .entry)) ⌝ }
 {
     if work.len() < WORK_BYTES {
-        return REFUSAL;
+        return SHORT_WORK;
     }
-    let mut numbers = [0u32; pass::WORK_NUMBERS];
-    let answer = pass::pass(sheet, &mut numbers, slip);
-    work::leave(work, answer.number);
+    if slip.len() < SLIP_BYTES {
+        return SHORT_SLIP;
+    }
+    let answer = pass::pass_sheet(sheet, slip);
+    work::leave_bytes(work, answer.number);
     one_number(answer.number, answer.length)
 }
 
 // Reason for a program in C.
 #[no_mangle]
 pub extern "C" fn ways_reason(sheet: &[u8], work: &mut [u8], slip: &mut [u8], item: u32) -> u32
-    ensures { λ r. ⌜ record { number = r; work = now (work .exit); slip = now (slip .exit) } ≡ reasonedBytes (now (sheet .entry)) (now (work .entry)) (now (slip .entry)) item ⌝ }
+    ensures { λ r. ⌜ record { number = r; work = now (work .exit); slip = now (slip .exit) }
+        ≡ reasonedBytes (now (sheet .entry)) (now (work .entry)) (now (slip .entry)) item ⌝ }
 {
     if work.len() < WORK_BYTES {
-        return REFUSAL;
+        return SHORT_WORK;
     }
-    let mut numbers = [0u32; pass::WORK_NUMBERS];
-    let answer = reason::reason(sheet, &mut numbers, slip, item);
-    work::leave(work, answer.number);
+    if slip.len() < SLIP_BYTES {
+        return SHORT_SLIP;
+    }
+    let answer = reason::reason_sheet(sheet, slip, item);
+    work::leave_bytes(work, answer.number);
     one_number(answer.number, answer.length)
 }
 
@@ -61,10 +73,9 @@ pub extern "C" fn ways_check(sheet: &[u8], work: &mut [u8], slip: &[u8]) -> u32
     ensures { λ r. ⌜ record { number = r; work = now (work .exit) } ≡ checkedBytes (now (sheet .entry)) (now (work .entry)) (now (slip .entry)) ⌝ }
 {
     if work.len() < WORK_BYTES {
-        return REFUSAL;
+        return SHORT_WORK;
     }
-    let mut numbers = [0u32; pass::WORK_NUMBERS];
-    let answer = checker::check(sheet, &mut numbers, slip);
-    work::leave(work, answer.number);
+    let answer = checker::check_sheet(sheet, slip);
+    work::leave_bytes(work, answer.number);
     one_number(answer.number, yes_number(answer.yes))
 }

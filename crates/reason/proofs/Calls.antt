@@ -2,26 +2,21 @@
 -- Assumes nothing.
 use Prim.Native.Nat.{ℕ}
 use mathlib.Core.Path.{_≡_, refl, sym, ap, _∙_}
-use mathlib.Core.Bool.{Bool, true, false}
 use mathlib.Core.List.{List, [], _∷_}
 use native.Mathlib.Omega.{arith}
-use lib.ListN.{length, drop}
-use lib.Seq.{take-at}
-use lib.Dec.{ltb}
-use Rattle.sheet.proofs.RefusalLaws.{taken-refuses}
-use Rattle.sheet.specs.Lent.{workNumbers}
 use Rattle.sheet.specs.Sheet.{Sheet}
 use Rattle.sheet.specs.Slip.{readSlip}
 use Rattle.varint.specs.Varint.{Read, got, refuse, after}
-use Rattle.pass_rules.proofs.AcceptedLaws.{accepted-taken, accepted-got}
+use Rattle.pass_rules.proofs.AcceptedLaws.{accepted-got}
 use Rattle.pass_rules.proofs.Demand2.{finished-is}
 use Rattle.pass_rules.specs.Accepted.{accepted}
-use Rattle.pass_rules.specs.Pass.{finished, answerOf, outcome, lentEnough, written}
+use Rattle.pass_rules.specs.Pass.{finished, answerOf, written}
 use Rattle.pass_rules.specs.Verdict.{slipFor}
-use Rattle.reason.proofs.SaidLaws.{item-late}
+use Rattle.pass.proofs.OutcomeLaws.{call-writes}
+use Rattle.reason_rules.proofs.WithinLaws.{reason-within}
 use Rattle.reason_rules.proofs.AnswerLaws.{reason-finished, reason-finishes}
 use Rattle.reason_rules.specs.Later.{Explains}
-use Rattle.reason_rules.specs.Reason.{reasonIn, reasonOn, reasoned}
+use Rattle.reason_rules.specs.Reason.{reasonOn, reasoned}
 
 -- a call that answers 0: the sheet is accepted, and the stated slip stands in front
 pub record Finished (sheet work slip : List ℕ) (i : ℕ) : Type 0 where
@@ -30,24 +25,12 @@ pub record Finished (sheet work slip : List ℕ) (i : ℕ) : Type 0 where
   pub writes : reasonOn sheet i ≡ finished (written (reasoned sheet work slip i))
 
 pub call-finished : (sheet work slip : List ℕ) (i : ℕ) → reasoned sheet work slip i .number ≡ 0 → Finished sheet work slip i
-unfolding reasoned lentEnough outcome reasonOn answerOf after
-call-finished sheet work slip i = go (ltb (length work) workNumbers) refl (ltb (length slip) 1200) refl (accepted sheet) refl
+unfolding reasoned reasonOn answerOf after
+call-finished sheet work slip i z = go (accepted sheet) refl (call-writes (reasonOn sheet i) work slip (reason-within sheet i) z)
   where
-    on : ltb (length work) workNumbers ≡ false → ltb (length slip) 1200 ≡ false → (S : Sheet) → accepted sheet ≡ got S [] → (r : Read (List ℕ)) → reasonIn i S [] ≡ r
-        → reasoned sheet work slip i .number ≡ 0 → Finished sheet work slip i
-    on p q S e (refuse w) f z = let y : w ≡ 0 = rw (p, q, e, f) at z in absurd (omega (arith, item-late i S w f))
-    on p q S e (got bytes rest) f z =
-        record { read = S; accepts = e; writes = rw (p, q, e, f) (ap finished (sym (take-at bytes (drop (length bytes) slip) (length bytes) refl))) }
-
-    go : (a : Bool) → ltb (length work) workNumbers ≡ a → (b : Bool) → ltb (length slip) 1200 ≡ b → (r : Read Sheet) → accepted sheet ≡ r
-        → reasoned sheet work slip i .number ≡ 0 → Finished sheet work slip i
-    go true p b q r e z = absurd (let y : _≡_ {A = ℕ} 1 0 = rw p at z in omega arith)
-    go false p true q r e z = absurd (let y : _≡_ {A = ℕ} 2 0 = rw (p, q) at z in omega arith)
-    go false p false q (refuse w) e z =
-        let y : w ≡ 0 = rw (p, q, e) at z in
-        let t = taken-refuses sheet w (sym (accepted-taken sheet) ∙ e) in
-        absurd (omega (arith, t .0))
-    go false p false q (got S rest) e z = on p q S (e ∙ ap (got S) (accepted-got sheet S rest e .1)) (reasonIn i S []) refl z
+    go : (r : Read Sheet) → accepted sheet ≡ r → reasonOn sheet i ≡ finished (written (reasoned sheet work slip i)) → Finished sheet work slip i
+    go (refuse w) e f = absurd (let y : _≡_ {A = ℕ} 0 1 = cc (rw e at f) in omega arith)
+    go (got S rest) e f = record { read = S; accepts = e ∙ ap (got S) (accepted-got sheet S rest e .1); writes = f }
 
 -- what the call left reads as a 4, the item as its only goal, and the reasons for it
 pub call-explains : (sheet work slip : List ℕ) (i : ℕ) → reasoned sheet work slip i .number ≡ 0

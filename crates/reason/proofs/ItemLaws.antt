@@ -11,20 +11,19 @@ use Rattle.sheet.specs.declared.Header.{Header}
 use Rattle.varint.specs.Answer.{small}
 use Rattle.sheet_required.proofs.HeldLaws.{items-are, listed-front}
 use Rattle.sheet_required.specs.Held.{Whole, sheetOf}
-use Rattle.goal_table.specs.Table.{GoalsFit}
 use Rattle.lists.proofs.TestLaws.{and-true, not-true}
-use Rattle.lists.specs.Lists.{member, front}
+use Rattle.lists.specs.Lists.{member, Put}
 use Rattle.pass.proofs.AnswerLaws.{slip-writes}
-use Rattle.rows.specs.Net.{netOf}
 use Rattle.sheet.proofs.MarkLaws.{is-open}
 use Rattle.sheet.specs.Sheet.{Sheet, markOf, isOpen}
 use Rattle.sheet.specs.Slip.{slipBytes, slipNumbers}
 use Rattle.slip_reader.specs.Form.{slipFrom}
 use Rattle.pass_rules.proofs.SlipOfPass.{slip-small}
+use Rattle.pass_rules.specs.Pass.{finished, refused, answerOf}
 use Rattle.pass_rules.specs.Verdict.{fitsSheet, verdict, isPruned, reasonsFor, slipFor}
 use Rattle.walks.specs.Graph.{itemCount}
 use Rattle.reason_rules.specs.Reason.{prunes, reasonIn}
-use Rattle.reason.specs.Said.{Says, refuses, writes}
+use Rattle.pass.specs.Blamed.{Blamed}
 
 module _ (S : Sheet) (i : ℕ) where
   -- the round is refused
@@ -48,41 +47,38 @@ module _ (S : Sheet) (i : ℕ) where
       let a = and-true (eqb (verdict S .number) 0) (isOpen S i && not (fitsSheet S (i ∷ []))) p in
       not-true (fitsSheet S (i ∷ [])) (and-true (isOpen S i) (not (fitsSheet S (i ∷ []))) (a .1) .1)
 
-module _ {h : Header} {arcs marks : List ℕ} (W : Whole h arcs marks) (i : ℕ) (slip : List ℕ) where
-  pub no-item : h .nodes + h .arcs ≤ i → Says (sheetOf h arcs marks) i slip (record { number = 15; length = 0 }) slip
-  unfolding reasonIn
-  no-item l = refuses 15 (rw (le-ltb i (itemCount (sheetOf h arcs marks .graph)) (omega (arith, items-are W))))
+module _ {h : Header} {arcs marks : List ℕ} (W : Whole h arcs marks) (i : ℕ) where
+  abbrev S : Sheet
+  S = sheetOf h arcs marks
+
+  pub no-item : h .nodes + h .arcs ≤ i → answerOf (reasonIn i S []) ≡ refused 15
+  unfolding reasonIn answerOf
+  no-item l = rw (le-ltb i (itemCount (S .graph)) (omega (arith, items-are W)))
 
   module _ (l : i < h .nodes + h .arcs) where
-    pub not-pruned : prunes (sheetOf h arcs marks) i ≡ false → Says (sheetOf h arcs marks) i slip (record { number = 16; length = 0 }) slip
-    unfolding reasonIn
-    not-pruned p = refuses 16 (rw (lt-ltb i (itemCount (sheetOf h arcs marks .graph)) (omega (arith, items-are W)), p))
+    pub not-pruned : prunes S i ≡ false → answerOf (reasonIn i S []) ≡ refused 16
+    unfolding reasonIn answerOf
+    not-pruned p = rw (lt-ltb i (itemCount (S .graph)) (omega (arith, items-are W)), p)
 
-    pub one-goal : GoalsFit (netOf (h .nodes) arcs marks) (i ∷ [])
+    pub pruned : prunes S i ≡ true → answerOf (reasonIn i S []) ≡ finished (slipBytes (slipFor S 4 (i ∷ [])))
+    unfolding reasonIn answerOf
+    pruned p = rw (lt-ltb i (itemCount (S .graph)) (omega (arith, items-are W)), p)
+
+    pub blamed : prunes S i ≡ true → Blamed h arcs marks (i ∷ [])
     unfolding member
-    one-goal = record { eight = omega arith; below = below; distinct = (refl, tt) }
+    blamed p = record { whole = W; fit = record { eight = omega arith; below = below; distinct = (refl, tt) }; unmet = pruned-unmet S i p }
       where
         below : (j : ℕ) → j < 1 → getD (i ∷ []) j 0 < h .nodes + length arcs / 3
         below zero q = omega (arith, l, W .held .0)
         below (suc j) q = absurd (omega arith)
 
     -- the slip that is written is the item's
-    item-slip : (d out : List ℕ) (k : ℕ) → k ≡ length (reasonsFor (sheetOf h arcs marks) (i ∷ [])) → out ≡ front (reasonsFor (sheetOf h arcs marks) (i ∷ [])) d
-        → slipFrom 4 (i ∷ []) (take k out) ≡ slipFor (sheetOf h arcs marks) 4 (i ∷ [])
+    pub item-slip : (d : List ℕ) {out : List ℕ} {k : ℕ} → Put (reasonsFor S (i ∷ [])) d out k → slipFrom 4 (i ∷ []) (take k out) ≡ slipFor S 4 (i ∷ [])
     unfolding slipFor
-    item-slip d out k e f = rw (listed-front (reasonsFor (sheetOf h arcs marks) (i ∷ [])) out d k (e, f))
+    item-slip d {out} {k} w = rw (listed-front (reasonsFor S (i ∷ [])) out d k w)
 
-    pub item-room : (m : ℕ) → 1200 ≤ m → (d out : List ℕ) (k : ℕ) → k ≡ length (reasonsFor (sheetOf h arcs marks) (i ∷ [])) → out ≡ front (reasonsFor (sheetOf h arcs marks) (i ∷ [])) d
+    pub item-room : (m : ℕ) → 1200 ≤ m → (d : List ℕ) {out : List ℕ} {k : ℕ} → Put (reasonsFor S (i ∷ [])) d out k
         → (small (slipNumbers (slipFrom 4 (i ∷ []) (take k out))) ≡ true) × (length (slipBytes (slipFrom 4 (i ∷ []) (take k out))) ≤ m)
-    item-room m r d out k e f =
-        rw (item-slip d out k e f)
-        (slip-writes (slipFor (sheetOf h arcs marks) 4 (i ∷ [])) m
-        (slip-small (sheetOf h arcs marks) (W .good) 4 (i ∷ []) (omega arith) (omega arith) (omega arith) (omega (arith, items-are W), tt)) r)
-
-    pub explains : prunes (sheetOf h arcs marks) i ≡ true → (d out : List ℕ) (k n : ℕ) (slip₁ : List ℕ) → k ≡ length (reasonsFor (sheetOf h arcs marks) (i ∷ []))
-        → out ≡ front (reasonsFor (sheetOf h arcs marks) (i ∷ [])) d → n ≡ length (slipBytes (slipFrom 4 (i ∷ []) (take k out))) → slip₁ ≡ front (slipBytes (slipFrom 4 (i ∷ []) (take k out))) slip
-        → Says (sheetOf h arcs marks) i slip (record { number = 0; length = n }) slip₁
-    unfolding reasonIn
-    explains p d out k n slip₁ e f u v =
-        rw (u, v, item-slip d out k e f)
-        (writes (slipBytes (slipFor (sheetOf h arcs marks) 4 (i ∷ []))) (rw (lt-ltb i (itemCount (sheetOf h arcs marks .graph)) (omega (arith, items-are W)), p)))
+    item-room m r d w =
+        rw (item-slip d w)
+        (slip-writes (slipFor S 4 (i ∷ [])) m (slip-small S (W .good) 4 (i ∷ []) (omega arith) (omega arith) (omega arith) (omega (arith, items-are W), tt)) r)

@@ -9,17 +9,15 @@ ghost use Rattle.row_spread.specs.Arcs.{Chained, TurnedTo};
 use row_spread::Mend;
 use rows::MISSING;
 use rows::ROW_LENGTH;
+use walks::ARC_NUMBERS;
 
-// The most numbers that the arcs take, three each.
-const ARC_NUMBERS: usize = 1536;
-
-// Stores `v` in each entry.
-fn fill(row: &mut [u32], v: u32)
-    ensures { λ _. ⌜ now (row .exit) ≡ replicate (length (now (row .entry))) v ⌝ }
+// Stores `value` in each entry.
+fn fill(row: &mut [u32], value: u32)
+    ensures { λ _. ⌜ now (row .exit) ≡ replicate (length (now (row .entry))) value ⌝ }
 {
     let mut i = 0;
     while i < row.len() {
-        row[i] = v;
+        row[i] = value;
         i += 1;
     }
 }
@@ -31,12 +29,12 @@ fn fill_row(arcs: &[u32], chains: &[u32], marks: &[u8], from: usize, row: &mut [
     ensures { λ _. ⌜ ((N : Net) → StartOf N (now (arcs .entry)) (now (marks .entry)) from → RowIs N cap from (now (row .exit))) ⌝ }
 {
     fill(row, MISSING);
-    let m = Mend {
+    let mend = Mend {
         from,
         active: 1u64 << from,
         cap,
     };
-    row_spread::mend_row(m, arcs, chains, marks, row);
+    row_spread::mend_row(mend, arcs, chains, marks, row);
 }
 
 // Leaves in `row` the least length from `from` to each node, clear of the forbidden items; MISSING above `cap`.
@@ -46,9 +44,9 @@ pub fn row_from(nodes: usize, arcs: &[u32], marks: &[u8], from: usize, row: &mut
     ensures { λ _. ⌜ RowIs (netOf nodes (now (arcs .entry)) (now (marks .entry))) cap from (now (row .exit)) ⌝ }
 {
     let mut packed = [0u32; ARC_NUMBERS];
-    let n = row_arcs::pack(nodes, arcs, marks, &mut packed);
-    let chains = row_spread::chained(&packed[..n]);
-    fill_row(&packed[..n], &chains, marks, from, row, cap);
+    let used = row_arcs::pack(nodes, arcs, marks, &mut packed);
+    let chains = row_spread::chained(&packed[..used]);
+    fill_row(&packed[..used], &chains, marks, from, row, cap);
 }
 
 // Writes the arcs with tail and head exchanged to the front of `back`.
@@ -75,15 +73,17 @@ pub fn row_to(nodes: usize, arcs: &[u32], marks: &[u8], to: usize, row: &mut [u3
 {
     let mut back = [0u32; ARC_NUMBERS];
     turn(arcs, &mut back);
-    let n = arcs.len();
-    row_from(nodes, &back[..n], marks, to, row, cap);
+    let used = arcs.len();
+    row_from(nodes, &back[..used], marks, to, row, cap);
 }
 
 // Fills the row of each start, whatever the work held. Row `i` has the 64 numbers of the work from `i` * 64 on.
 pub fn fill_rows(arcs: &[u32], marks: &[u8], starts: &[usize], work: &mut [u32], cap: u32)
     requires { ⌜ Joins 64 (now arcs) × StartsFit (now marks) (now starts) (now work) × (cap < missing) × (length (now arcs) ≤ 1536) ⌝ }
-    ensures { λ _. ⌜ ((N : Net) → StartsOf N (now (arcs .entry)) (now (marks .entry)) (now (starts .entry)) → RowsAre N cap (now (starts .entry)) (length (now (starts .entry))) (now (work .exit))) ⌝ }
-    ensures { λ _. ⌜ drop (length (now (starts .entry)) * 64) (now (work .exit)) ≡ drop (length (now (starts .entry)) * 64) (now (work .entry)) ⌝ }
+    ensures { λ _.
+        let ss = now (starts .entry) in
+        ⌜ ((N : Net) → StartsOf N (now (arcs .entry)) (now (marks .entry)) ss → RowsAre N cap ss (length ss) (now (work .exit))) ⌝ }
+    ensures { λ _. let n = length (now (starts .entry)) * 64 in ⌜ drop n (now (work .exit)) ≡ drop n (now (work .entry)) ⌝ }
 {
     let chains = row_spread::chained(arcs);
     let mut i = 0;

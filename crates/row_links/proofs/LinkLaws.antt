@@ -9,11 +9,11 @@ use lib.Seq.{getD-take, getD-drop, length-take-le, take-take, take-set-le, drop-
 use Rattle.walks.specs.Graph.{closedIn}
 use Rattle.rows.specs.Net.{Net, netOf, arcCount, tailIn, headIn, weightIn, Proper, Packed}
 use Rattle.rows.proofs.ArcLaws.{written, written-before, written-tail}
-use Rattle.row_arcs.proofs.PackLaws.{packed-joins}
+use Rattle.row_arcs.proofs.PackLaws.{packed-joins, packed-whole}
 use Rattle.row_spread.specs.Arcs.{ChainedBy, Chained}
 use Rattle.row_spread.proofs.ChainLaws.{chain-more, chain-less, chain-same}
 use Rattle.row_links.specs.Links.{Linked, Shaped, takenOff, PackOpened}
-use Rattle.row_links.proofs.PackOpened.{packed-whole, add-none, add-one}
+use Rattle.row_links.proofs.PackOpened.{add-none, add-one}
 
 pub linked-shaped : {N : Net} {c : ℕ} {packed : List ℕ} → Proper N → Linked N c packed → Shaped c packed
 linked-shaped p L = record { long = L .long; room = L .room; joins = packed-joins p (L .arcs); chained = L .chained }

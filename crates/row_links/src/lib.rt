@@ -1,21 +1,20 @@
 // The open arcs, packed and chained by their tails, while items are opened and closed again.
 ghost use mathlib.Core.Path.{_≡_};
-ghost use mathlib.Core.List.{List};
-ghost use Prim.Native.Nat.{ℕ, _+_, _*_, _≤_, _<_};
-ghost use lib.ListN.{length, getD, take, drop, set};
-ghost use Rattle.rows.specs.Net.{netOf, arcCount, Proper, Packed};
+ghost use Prim.Native.Nat.{_+_, _*_, _≤_, _<_};
+ghost use lib.ListN.{length, getD, take, drop};
+ghost use Rattle.rows.specs.Net.{netOf, arcCount, Proper};
 ghost use Rattle.row_links.specs.Links.{Linked, takenOff, PackOpened};
-use rows::FORBIDDEN;
+use row_spread::CHAIN_NUMBERS;
 use rows::ROW_LENGTH;
+use walks::ARC_NUMBERS;
+use walks::ARCS;
+use walks::FORBIDDEN;
 
-// The numbers of the packed arcs, three each, and behind them of their chains.
-pub const LINK_NUMBERS: usize = 2112;
+// Where the chains begin: behind the packed arcs.
+pub const CHAINS: usize = ARC_NUMBERS;
 
-// Where the chains begin.
-pub const CHAINS: usize = 1536;
-
-// The most arcs.
-const ARCS: usize = 512;
+// The numbers of the packed arcs and their chains.
+pub const LINK_NUMBERS: usize = CHAINS + CHAIN_NUMBERS;
 
 // Writes the chains behind the packed arcs.
 fn put_chains(packed: &mut [u32], chains: &[u32])
@@ -35,65 +34,66 @@ pub fn pack_all(nodes: usize, arcs: &[u32], marks: &[u8], packed: &mut [u32]) ->
     ensures { λ r. ⌜ Linked (netOf nodes (now (arcs .entry)) (now (marks .entry))) r (now (packed .exit)) ⌝ }
 {
     let count = row_arcs::pack(nodes, arcs, marks, packed) / 3;
-    let n = count * 3;
-    let chains = row_spread::chained(&packed[..n]);
+    let used = count * 3;
+    let chains = row_spread::chained(&packed[..used]);
     put_chains(packed, &chains);
     count
 }
 
-// Puts the arc behind the `c` arcs that are packed, and in front of its tail's chain, where its head is open.
+// Puts the arc behind the `count` arcs that are packed, and in front of its tail's chain, where its head is open.
 fn add_arc(
     nodes: usize,
     arcs: &[u32],
     marks: &[u8],
     packed: &mut [u32],
     arc: usize,
-    c: usize,
+    count: usize,
 ) -> usize
-    requires { ⌜ Proper (netOf nodes (now arcs) (now marks)) × (arc < arcCount (now arcs)) × (c < 512) × (length (now packed) ≡ 2112) ⌝ }
-    ensures { λ r. ⌜ PackOpened nodes (now (arcs .entry)) (now (marks .entry)) (nodes + arc) c (now (packed .entry)) (now (packed .exit)) r ⌝ }
+    requires { ⌜ Proper (netOf nodes (now arcs) (now marks)) × (arc < arcCount (now arcs)) × (count < 512) × (length (now packed) ≡ 2112) ⌝ }
+    ensures { λ r. ⌜ PackOpened nodes (now (arcs .entry)) (now (marks .entry)) (nodes + arc) count (now (packed .entry)) (now (packed .exit)) r ⌝ }
 {
     let at = arc * 3;
     let tail = arcs[at];
     let head = arcs[at + 1];
     if marks[head as usize] == FORBIDDEN {
-        return c;
+        return count;
     }
-    let to = c * 3;
+    let to = count * 3;
     packed[to] = tail;
     packed[to + 1] = head;
     packed[to + 2] = arcs[at + 2];
     let chain = CHAINS + tail as usize;
-    packed[CHAINS + ROW_LENGTH + c] = packed[chain];
-    packed[chain] = c as u32 + 1;
-    c + 1
+    packed[CHAINS + ROW_LENGTH + count] = packed[chain];
+    packed[chain] = count as u32 + 1;
+    count + 1
 }
 
-// The packed arcs once the item is opened, of which there were `c`: an arc is put behind them, and else they are packed anew.
+// The packed arcs once the item is opened, of which there were `count`: an arc is put behind them, and else they are packed anew.
 pub fn pack_opened(
     nodes: usize,
     arcs: &[u32],
     marks: &[u8],
     packed: &mut [u32],
     item: usize,
-    c: usize,
+    count: usize,
 ) -> usize
-    requires { ⌜ Proper (netOf nodes (now arcs) (now marks)) × (item < nodes + arcCount (now arcs)) × (length (now arcs) ≤ 1536) × (length (now packed) ≡ 2112) ⌝ }
-    ensures { λ r. ⌜ PackOpened nodes (now (arcs .entry)) (now (marks .entry)) item c (now (packed .entry)) (now (packed .exit)) r ⌝ }
+    requires { let N = netOf nodes (now arcs) (now marks) in
+        ⌜ Proper N × (item < nodes + arcCount (now arcs)) × (length (now arcs) ≤ 1536) × (length (now packed) ≡ 2112) ⌝ }
+    ensures { λ r. ⌜ PackOpened nodes (now (arcs .entry)) (now (marks .entry)) item count (now (packed .entry)) (now (packed .exit)) r ⌝ }
 {
     if item >= nodes {
-        if c < ARCS {
-            return add_arc(nodes, arcs, marks, packed, item - nodes, c);
+        if count < ARCS {
+            return add_arc(nodes, arcs, marks, packed, item - nodes, count);
         }
     }
     pack_all(nodes, arcs, marks, packed)
 }
 
-// Takes the arc behind the `c` first ones off its tail's chain.
-pub fn take_off(packed: &mut [u32], c: usize)
-    requires { ⌜ (length (now packed) ≡ 2112) × (c < 512) × (getD (now packed) (c * 3) 0 < 64) ⌝ }
-    ensures { λ _. ⌜ now (packed .exit) ≡ takenOff (now (packed .entry)) c ⌝ }
+// Takes the arc behind the `count` first ones off its tail's chain.
+pub fn take_off(packed: &mut [u32], count: usize)
+    requires { ⌜ (length (now packed) ≡ 2112) × (count < 512) × (getD (now packed) (count * 3) 0 < 64) ⌝ }
+    ensures { λ _. ⌜ now (packed .exit) ≡ takenOff (now (packed .entry)) count ⌝ }
 {
-    let chain = CHAINS + packed[c * 3] as usize;
-    packed[chain] = packed[CHAINS + ROW_LENGTH + c];
+    let chain = CHAINS + packed[count * 3] as usize;
+    packed[chain] = packed[CHAINS + ROW_LENGTH + count];
 }

@@ -1,7 +1,7 @@
 -- What the code answers once an item is opened: a node, an arc to a closed node, and any other arc. Assumes nothing.
 use Prim.Native.Nat.{ℕ, _+_, _-_, _≤_, _<_}
 use mathlib.Core.Path.{_≡_, refl, sym, _∙_}
-use mathlib.Core.Bool.{Bool, true, false, true≢false, false≢true}
+use mathlib.Core.Bool.{true, false, true≢false, false≢true}
 use mathlib.Core.List.{List}
 use native.Mathlib.Omega.{arith}
 use borrow.Author.Tests.{lt-ltb, le-ltb}
@@ -9,21 +9,14 @@ use lib.ListN.{length}
 use Rattle.walks.specs.Graph.{closedIn}
 use Rattle.rows.specs.Bits.{bitOf}
 use Rattle.rows.specs.Held.{missing}
-use Rattle.rows.specs.Net.{Net, netOf, arcCount, tailIn, headIn, weightIn}
-use Rattle.rows.specs.Rows.{RowsAre, RowsSound, StartsOf}
-use Rattle.row_reopen.specs.Openings.{Saves, Kept, RowsMendable, Entering, ItemOpened}
+use Rattle.rows.specs.Net.{netOf, arcCount, tailIn, headIn}
+use Rattle.row_reopen.specs.Openings.{changeOf, arcAt, Saves, RowsMended, Entering, ItemOpened}
 use Rattle.row_reopen.proofs.RowsOpened.{opened-starts, opened-sound, opened-mendable, arc-kept, arc-shut, arc-mendable}
 use Rattle.row_reopen.proofs.SavesLaws.{saves-shut}
 
--- what mending gives for a change
-abbrev pub Mending : ℕ → Bool → ℕ → ℕ → ℕ → List ℕ → List ℕ → List ℕ → ℕ → List ℕ → List ℕ → Type 0
-Mending cap node u v w ys marks starts active work after =
-    (N : Net) → StartsOf N ys marks starts → RowsSound N cap starts work → RowsMendable cap ys marks starts active work → Kept N cap node u v w starts work
-    → RowsAre N cap starts (length starts) after
-
 module _ (n : ℕ) (xs : List ℕ) (i cap : ℕ) (marks ys starts work after : List ℕ) (kept active : ℕ) (small : cap < missing) where
-  pub item-node : i < n → Entering (arcCount ys) ys i active → Saves (length starts) cap true 0 0 0 work after kept
-      → Mending cap true 0 0 0 ys marks starts active work after → ItemOpened n xs i cap marks ys starts work after kept
+  pub item-node : i < n → Entering (arcCount ys) ys i active → Saves (length starts) cap (changeOf true 0 0 0) work after kept
+      → RowsMended cap ys marks starts active (changeOf true 0 0 0) work after → ItemOpened n xs i cap marks ys starts work after kept
   item-node h E S M = record {
     rows = λ old O R.
         M (netOf n xs marks) (opened-starts O) (opened-sound O cap work small R) (opened-mendable O h cap active work small E R) (λ j l q. absurd (true≢false q));
@@ -44,8 +37,8 @@ module _ (n : ℕ) (xs : List ℕ) (i cap : ℕ) (marks ys starts work after : L
     at = omega arith
 
     pub item-arc : closedIn marks (headIn xs (i - n)) ≡ false → bitOf active (tailIn xs (i - n)) ≡ 1
-        → Saves (length starts) cap false (tailIn xs (i - n)) (headIn xs (i - n)) (weightIn xs (i - n)) work after kept
-        → Mending cap false (tailIn xs (i - n)) (headIn xs (i - n)) (weightIn xs (i - n)) ys marks starts active work after
+        → Saves (length starts) cap (arcAt xs (i - n)) work after kept
+        → RowsMended cap ys marks starts active (arcAt xs (i - n)) work after
         → ItemOpened n xs i cap marks ys starts work after kept
     item-arc o b S M = record {
       rows = λ old O R.
@@ -59,6 +52,6 @@ pub item-shut : (n : ℕ) (xs : List ℕ) (i cap : ℕ) (marks ys starts work : 
     → ItemOpened n xs i cap marks ys starts work work 0
 item-shut n xs i cap marks ys starts work small arc q = record {
   rows = λ old O R. arc-shut O (i - n) cap work (omega arith) small R q;
-  saves = rw (le-ltb i n arc) (saves-shut cap false (tailIn xs (i - n)) (headIn xs (i - n)) (weightIn xs (i - n)) work (length starts) (λ e. absurd (false≢true e)));
+  saves = rw (le-ltb i n arc) (saves-shut cap (arcAt xs (i - n)) work (length starts) (λ e. absurd (false≢true e)));
   shut = λ _ _. refl;
 }

@@ -1,5 +1,5 @@
 -- All rows once an item is opened: each holds the least lengths as it is, or can be mended. Assumes nothing.
-use Prim.Native.Nat.{ℕ, _+_, _-_, _<_}
+use Prim.Native.Nat.{ℕ, _+_, _<_}
 use mathlib.Core.Path.{_≡_, refl, sym, ap, _∙_}
 use mathlib.Core.Logic.{_⊎_, inl, inr}
 use mathlib.Core.Bool.{true, true≢false, false}
@@ -14,10 +14,10 @@ use Rattle.rows.specs.Bits.{bitOf, alone}
 use Rattle.rows.specs.Held.{missing}
 use Rattle.rows.specs.Net.{netOf, arcCount, tailIn, headIn, weightIn, Proper}
 use Rattle.rows.specs.Rows.{rowAt, RowIs, Tried, RowsAre, RowsSound, StartsOf}
-use Rattle.rows.proofs.BitLaws.{bit-own, added-own, added-kept}
+use Rattle.rows.proofs.BitLaws.{bit-own, bit-other, added-own, added-kept, added-other}
 use Rattle.rows.proofs.OpenLaws.{sound-opens}
 use Rattle.rows.proofs.WorkLaws.{row-entry, rows-sound}
-use Rattle.row_reopen.specs.Openings.{Kept, RowsMendable, Entering, Opened}
+use Rattle.row_reopen.specs.Openings.{arcAt, Kept, RowsMendable, Entering, Opened}
 use Rattle.row_reopen.proofs.ArcOpened.{proper-opened, row-kept, row-mendable, node-mendable}
 
 module _ {n : ℕ} {xs old : List ℕ} {i : ℕ} {marks ys starts : List ℕ} (O : Opened n xs old i marks ys starts) where
@@ -58,7 +58,7 @@ module _ {n : ℕ} {xs old : List ℕ} {i : ℕ} {marks ys starts : List ℕ} (O
         (row-kept n xs old l (O .proper) below cap (getD starts j 0) (rowAt work j) ys small (O .nodes j h) (rw is-opened at (O .packed))
         (λ o. t (rw is-opened o)) (row-at j h))
 
-    pub arc-kept : Kept (netOf n xs marks) cap false (tailIn xs l) (headIn xs l) (weightIn xs l) starts work
+    pub arc-kept : Kept (netOf n xs marks) cap (arcAt xs l) starts work
     arc-kept j h _ t = still j h (λ _. t)
 
     -- its head is closed
@@ -74,16 +74,19 @@ module _ {n : ℕ} {xs old : List ℕ} {i : ℕ} {marks ys starts : List ℕ} (O
 
 -- the nodes whose arcs enter a node
 pub entering-begun : (ys : List ℕ) (v : ℕ) → v < 64 → Entering 0 ys v (alone v)
-entering-begun ys v h = record { own = bit-own v h; tails = λ j l. absurd (omega arith) }
+entering-begun ys v h = record { own = bit-own v h; tails = λ j l. absurd (omega arith); only = λ x n f. bit-other v x h n }
 
 pub entering-more : (i : ℕ) (ys : List ℕ) (v a r : ℕ) → tailIn ys i < 64 → Entering i ys v a
     → ((headIn ys i ≡ v) × (r ≡ bitOr a (alone (tailIn ys i)))) ⊎ ((headIn ys i ≡ v → ⊥) × (r ≡ a)) → Entering (i + 1) ys v r
-entering-more i ys v a r h E (inl w) = rw (w .1) (record { own = added-kept a (tailIn ys i) v (E .own); tails = λ j l. tails j (ℕ-discrete j i) l })
+entering-more i ys v a r h E (inl w) = rw (w .1) (record { own = added-kept a (tailIn ys i) v (E .own); tails = λ j l. tails j (ℕ-discrete j i) l; only = only })
   where
+    only : (x : ℕ) → (x ≡ v → ⊥) → ((j : ℕ) → j < i + 1 → headIn ys j ≡ v → tailIn ys j ≡ x → ⊥) → bitOf (bitOr a (alone (tailIn ys i))) x ≡ 0
+    only x n f = added-other a (tailIn ys i) x h (λ q. f i (omega arith) (w .0) (sym q)) ∙ E .only x n (λ j l e q. f j (omega arith) e q)
+
     tails : (j : ℕ) → Dec (j ≡ i) → j < i + 1 → headIn ys j ≡ v → bitOf (bitOr a (alone (tailIn ys i))) (tailIn ys j) ≡ 1
     tails j (yes q) l e = rw q (added-own a (tailIn ys i) h)
     tails j (no q) l e = added-kept a (tailIn ys i) (tailIn ys j) (E .tails j (omega arith) e)
-entering-more i ys v a r h E (inr w) = rw (w .1) (record { own = E .own; tails = λ j l. tails j (ℕ-discrete j i) l })
+entering-more i ys v a r h E (inr w) = rw (w .1) (record { own = E .own; tails = λ j l. tails j (ℕ-discrete j i) l; only = λ x n f. E .only x n (λ j l e q. f j (omega arith) e q) })
   where
     tails : (j : ℕ) → Dec (j ≡ i) → j < i + 1 → headIn ys j ≡ v → bitOf a (tailIn ys j) ≡ 1
     tails j (yes q) l e = absurd (w .0 (rw q at e))

@@ -2,7 +2,7 @@
 use Prim.Native.Nat.{ℕ, _+_, _-_, _*_, _/_, _^_, _≤_, _<_}
 use mathlib.Core.Path.{_≡_, refl, sym, ap, _∙_}
 use mathlib.Core.Logic.{_⊎_, inl, inr}
-use mathlib.Core.Bool.{Bool, true, false, true≢false}
+use mathlib.Core.Bool.{true, false, true≢false}
 use mathlib.Core.List.{List, [], _++_}
 use native.Mathlib.Omega.{arith}
 use native.Mathlib.Decide.{ℕ-discrete, decLt}
@@ -14,11 +14,11 @@ use Rattle.rows.specs.Bits.{bitOf, alone}
 use Rattle.walks.specs.Graph.{least}
 use Rattle.rows.specs.Held.{held}
 use Rattle.rows.specs.Net.{Net, graph, closed}
-use Rattle.rows.specs.Rows.{RowIs, rowAt, Tried, RowsAre}
+use Rattle.rows.specs.Rows.{RowIs, rowAt, RowsAre}
 use Rattle.rows.proofs.BitLaws.{added-own, added-other}
 use Rattle.rows.proofs.WorkLaws.{part-in, part-before, row-entry}
 use Rattle.row_save.specs.Kept.{RowPut}
-use Rattle.row_reopen.specs.Openings.{KeptRow, Mends, left, mended, Saves}
+use Rattle.row_reopen.specs.Openings.{Change, Idle, KeptRow, Mends, left, mended, Saves}
 
 -- a row whose numbers are as they were
 pub row-same : (i : ℕ) (work after : List ℕ) → i < 9 → length work ≡ 3648 → length after ≡ 3648
@@ -31,9 +31,9 @@ row-same i work after h l m e = ext-getD 0 _ _ (long after m ∙ sym (long work 
     at : (x : ℕ) → x < 64 → getD (rowAt after i) x 0 ≡ getD (rowAt work i) x 0
     at x k = row-entry after i x k ∙ e x k ∙ sym (row-entry work i x k)
 
-module _ (cap : ℕ) (node : Bool) (u v w : ℕ) (work : List ℕ) where
+module _ (cap : ℕ) (C : Change) (work : List ℕ) where
   -- nothing is kept where no row is looked at, or where none is cut
-  saves-none : (n : ℕ) → (node ≡ true → n ≡ 0) → Saves n cap node u v w work work 0
+  saves-none : (n : ℕ) → (C .node ≡ true → n ≡ 0) → Saves n cap C work work 0
   saves-none n e = record {
     same = λ i h b x k. refl;
     copies = λ i h b. absurd (bit i b);
@@ -50,19 +50,19 @@ module _ (cap : ℕ) (node : Bool) (u v w : ℕ) (work : List ℕ) where
       bit : (i : ℕ) → bitOf 0 i ≡ 1 → ⊥
       bit i b = omega (arith, b, off i)
 
-  pub saves-begun : Saves 0 cap node u v w work work 0
+  pub saves-begun : Saves 0 cap C work work 0
   saves-begun = saves-none 0 (λ _. refl)
 
-  pub saves-shut : (n : ℕ) → (node ≡ true → ⊥) → Saves n cap node u v w work work 0
+  pub saves-shut : (n : ℕ) → (C .node ≡ true → ⊥) → Saves n cap C work work 0
   saves-shut n e = saves-none n (λ q. absurd (e q))
 
   -- one row more
-  module _ {n : ℕ} {mid : List ℕ} {kept : ℕ} (few : n < 9) (long : length work ≡ 3648) (long′ : length mid ≡ 3648) (S : Saves n cap node u v w work mid kept) where
+  module _ {n : ℕ} {mid : List ℕ} {kept : ℕ} (few : n < 9) (long : length work ≡ 3648) (long′ : length mid ≡ 3648) (S : Saves n cap C work mid kept) where
     pub row-begun : rowAt mid n ≡ rowAt work n
     row-begun = row-same n work mid few long long′ (λ x h. S .beside (n * 64 + x) (omega arith) (omega arith))
 
-    module _ (t : node ≡ true → ⊥) where
-      saves-left : Saves (n + 1) cap node u v w work mid kept
+    module _ (t : C .node ≡ true → ⊥) where
+      saves-left : Saves (n + 1) cap C work mid kept
       saves-left = record {
         same = λ i h b x k. elim (decLt i n) [
           | yes l ↦ S .same i l b x k
@@ -79,7 +79,7 @@ module _ (cap : ℕ) (node : Bool) (u v w : ℕ) (work : List ℕ) where
           low : (i : ℕ) → i < n + 1 → bitOf kept i ≡ 1 → i < n
           low i h b = elim (decLt i n) [ yes l ↦ l | no l ↦ absurd (omega (arith, b, S .none i (omega arith))) ]
 
-    module _ (after : List ℕ) (t : node ≡ false → Tried cap (rowAt work n) u v w → ⊥) (K : KeptRow n mid after) where
+    module _ (after : List ℕ) (t : C .node ≡ false → Idle cap C (rowAt work n) → ⊥) (K : KeptRow n mid after) where
       abbrev more : ℕ
       more = bitOr kept (alone n)
 
@@ -101,7 +101,7 @@ module _ (cap : ℕ) (node : Bool) (u v w : ℕ) (work : List ℕ) where
           away : (i n : ℕ) → (i ≡ n → ⊥) → (x : ℕ) → x < 64 → (3072 + i * 64 + x < 3072 + n * 64) ⊎ (3072 + n * 64 + 64 ≤ 3072 + i * 64 + x)
           away i n q x k = elim (decLt i n) [ yes l ↦ inl (omega arith) | no l ↦ inr (omega arith) ]
 
-      saves-mended : Saves (n + 1) cap node u v w work after more
+      saves-mended : Saves (n + 1) cap C work after more
       saves-mended = record {
         same = λ i h b x k. let q = other i b in row i q x k (omega arith) ∙ S .same i (less i h q) (sym (bit i q) ∙ b) x k;
         copies = λ i h b x k. copies i h b x k (ℕ-discrete i n);
@@ -125,24 +125,24 @@ module _ (cap : ℕ) (node : Bool) (u v w : ℕ) (work : List ℕ) where
           copies i h b x k (yes q) = rw q (K .kept x k ∙ S .beside (n * 64 + x) (omega arith) (omega arith))
           copies i h b x k (no q) = copy i q x k ∙ S .copies i (less i h q) (sym (bit i q) ∙ b) x k
 
-          cuts : (i : ℕ) → i < n + 1 → bitOf more i ≡ 1 → Dec (i ≡ n) → node ≡ false → Tried cap (rowAt work i) u v w → ⊥
+          cuts : (i : ℕ) → i < n + 1 → bitOf more i ≡ 1 → Dec (i ≡ n) → C .node ≡ false → Idle cap C (rowAt work i) → ⊥
           cuts i h b (yes q) = rw q t
           cuts i h b (no q) = S .cuts i (less i h q) (sym (bit i q) ∙ b)
 
-          nodes : node ≡ true → (i : ℕ) → i < n + 1 → Dec (i ≡ n) → bitOf more i ≡ 1
+          nodes : C .node ≡ true → (i : ℕ) → i < n + 1 → Dec (i ≡ n) → bitOf more i ≡ 1
           nodes e i h (yes q) = rw q own
           nodes e i h (no q) = bit i q ∙ S .nodes e i (less i h q)
 
-    pub saves-more : {after : List ℕ} {r : ℕ} → Mends n cap node u v w kept mid after r → Saves (n + 1) cap node u v w work after r
+    pub saves-more : {after : List ℕ} {r : ℕ} → Mends n cap C kept mid after r → Saves (n + 1) cap C work after r
     saves-more (left e t) = saves-left (λ q. true≢false (sym q ∙ e))
     saves-more (mended {after = after} t K) = saves-mended after (λ e k. t e (rw row-begun k)) K
 
     -- the rows before are as they were
-    pub rows-before : {after : List ℕ} {r : ℕ} → Mends n cap node u v w kept mid after r → (N : Net) (starts : List ℕ) → N .nodes ≤ 64
+    pub rows-before : {after : List ℕ} {r : ℕ} → Mends n cap C kept mid after r → (N : Net) (starts : List ℕ) → N .nodes ≤ 64
         → RowIs N cap (getD starts n 0) (rowAt after n) → RowsAre N cap starts n mid → RowsAre N cap starts (n + 1) after
     rows-before {after} M N starts small R B i h x hx = go (ℕ-discrete i n)
       where
-        same : {a : List ℕ} {r : ℕ} → Mends n cap node u v w kept mid a r → i < n → getD a (i * 64 + x) 0 ≡ getD mid (i * 64 + x) 0
+        same : {a : List ℕ} {r : ℕ} → Mends n cap C kept mid a r → i < n → getD a (i * 64 + x) 0 ≡ getD mid (i * 64 + x) 0
         same (left e t) l = refl
         same (mended t K) l = K .other (i * 64 + x) (inl (omega arith)) (inl (omega arith))
 

@@ -1,4 +1,4 @@
--- What opening an item does to the rows, as the code tells it. A change is a node that is opened, or an arc from u to v of weight w.
+-- What opening an item does to the rows, as the code tells it.
 use Prim.Native.Nat.{ℕ, _+_, _*_, _-_, _≤_, _<_}
 use mathlib.Core.Path.{_≡_}
 use mathlib.Core.Logic.{_⊎_}
@@ -10,8 +10,25 @@ use lib.ListN.{length, getD, set}
 use Rattle.walks.specs.Graph.{closedIn}
 use Rattle.rows.specs.Bits.{bitOf, alone}
 use Rattle.rows.specs.Net.{Net, netOf, arcCount, tailIn, headIn, weightIn, Proper, Packed}
-use Rattle.rows.specs.Rows.{RowIs, rowAt, Tried, RowsAre}
+use Rattle.rows.specs.Rows.{RowIs, Sound, StartOf, rowAt, Tried, RowsAre, RowsSound, StartsOf}
 use Rattle.row_spread.specs.Active.{Mendable}
+
+-- a change: a node that is opened, or an arc with its ends and weight
+pub record Change : Type 0 where
+  pub node : Bool
+  pub tail : ℕ
+  pub head : ℕ
+  pub weight : ℕ
+
+abbrev pub changeOf : Bool → ℕ → ℕ → ℕ → Change
+changeOf node u v w = record { node = node; tail = u; head = v; weight = w }
+
+abbrev pub arcAt : List ℕ → ℕ → Change
+arcAt xs l = changeOf false (tailIn xs l) (headIn xs l) (weightIn xs l)
+
+-- an arc that cuts no entry of the row d
+abbrev pub Idle : ℕ → Change → List ℕ → Type 0
+Idle cap C d = Tried cap d (C .tail) (C .head) (C .weight)
 
 -- row i is kept from 3072 on as it was, and nothing but it and its kept copy is touched
 pub record KeptRow (i : ℕ) (work after : List ℕ) : Type 0 where
@@ -19,26 +36,31 @@ pub record KeptRow (i : ℕ) (work after : List ℕ) : Type 0 where
   pub other : (j : ℕ) → (j < i * 64) ⊎ (i * 64 + 64 ≤ j) → (j < 3072 + i * 64) ⊎ (3072 + i * 64 + 64 ≤ j) → getD after j 0 ≡ getD work j 0
 
 -- What a change does to row i and to the rows that are kept, one bit each: nothing where it is an arc that cuts no entry; else the row is kept.
-pub data Mends (i cap : ℕ) (node : Bool) (u v w kept : ℕ) (work : List ℕ) : List ℕ → ℕ → Type 0 where
-  left : node ≡ false → Tried cap (rowAt work i) u v w → Mends i cap node u v w kept work work kept
-  mended : {after : List ℕ} → (node ≡ false → Tried cap (rowAt work i) u v w → ⊥) → KeptRow i work after
-      → Mends i cap node u v w kept work after (bitOr kept (alone i))
+pub data Mends (i cap : ℕ) (C : Change) (kept : ℕ) (work : List ℕ) : List ℕ → ℕ → Type 0 where
+  left : C .node ≡ false → Idle cap C (rowAt work i) → Mends i cap C kept work work kept
+  mended : {after : List ℕ} → (C .node ≡ false → Idle cap C (rowAt work i) → ⊥) → KeptRow i work after
+      → Mends i cap C kept work after (bitOr kept (alone i))
+
+-- a row e that was mended for the change holds the least lengths, where the row d could be mended, or held them if the change cuts no entry
+abbrev pub RowMended : ℕ → List ℕ → List ℕ → ℕ → ℕ → Change → List ℕ → List ℕ → Type 0
+RowMended cap ys marks s active C d e =
+    (N : Net) → StartOf N ys marks s → Sound N cap s d → Mendable cap ys marks s active d → (C .node ≡ false → Idle cap C d → RowIs N cap s d)
+    → RowIs N cap s e
 
 -- What it does to the first n rows: those that are not kept are as they were, the kept ones are those that it cuts, and for a node all; and nothing but
 -- these and their kept copies is touched.
-pub record Saves (n cap : ℕ) (node : Bool) (u v w : ℕ) (work after : List ℕ) (kept : ℕ) : Type 0 where
+pub record Saves (n cap : ℕ) (C : Change) (work after : List ℕ) (kept : ℕ) : Type 0 where
   pub same : (i : ℕ) → i < n → bitOf kept i ≡ 0 → (x : ℕ) → x < 64 → getD after (i * 64 + x) 0 ≡ getD work (i * 64 + x) 0
   pub copies : (i : ℕ) → i < n → bitOf kept i ≡ 1 → (x : ℕ) → x < 64 → getD after (3072 + i * 64 + x) 0 ≡ getD work (i * 64 + x) 0
   pub unkept : (i : ℕ) → bitOf kept i ≡ 0 → (x : ℕ) → x < 64 → getD after (3072 + i * 64 + x) 0 ≡ getD work (3072 + i * 64 + x) 0
   pub beside : (j : ℕ) → n * 64 ≤ j → j < 3072 → getD after j 0 ≡ getD work j 0
   pub none : (i : ℕ) → n ≤ i → bitOf kept i ≡ 0
-  pub cuts : (i : ℕ) → i < n → bitOf kept i ≡ 1 → node ≡ false → Tried cap (rowAt work i) u v w → ⊥
-  pub nodes : node ≡ true → (i : ℕ) → i < n → bitOf kept i ≡ 1
+  pub cuts : (i : ℕ) → i < n → bitOf kept i ≡ 1 → C .node ≡ false → Idle cap C (rowAt work i) → ⊥
+  pub nodes : C .node ≡ true → (i : ℕ) → i < n → bitOf kept i ≡ 1
 
 -- a row of which the arc cuts no entry holds the least lengths as it is
-abbrev pub Kept : Net → ℕ → Bool → ℕ → ℕ → ℕ → List ℕ → List ℕ → Type 0
-Kept N cap node u v w starts work =
-    (i : ℕ) → i < length starts → node ≡ false → Tried cap (rowAt work i) u v w → RowIs N cap (getD starts i 0) (rowAt work i)
+abbrev pub Kept : Net → ℕ → Change → List ℕ → List ℕ → Type 0
+Kept N cap C starts work = (i : ℕ) → i < length starts → C .node ≡ false → Idle cap C (rowAt work i) → RowIs N cap (getD starts i 0) (rowAt work i)
 
 -- the marks are those of a graph with item i opened, ys are the arcs that are open then, and the starts are nodes
 pub record Opened (n : ℕ) (xs old : List ℕ) (i : ℕ) (marks ys starts : List ℕ) : Type 0 where
@@ -52,15 +74,25 @@ pub record Opened (n : ℕ) (xs old : List ℕ) (i : ℕ) (marks ys starts : Lis
 abbrev pub RowsMendable : ℕ → List ℕ → List ℕ → List ℕ → ℕ → List ℕ → Type 0
 RowsMendable cap ys marks starts active work = (i : ℕ) → i < length starts → Mendable cap ys marks (getD starts i 0) active (rowAt work i)
 
--- node v is active, and so are the tails of those of the first m arcs that enter it
+-- the rows that were mended for the change hold the least lengths, the first n of them
+abbrev pub RowsMendedTo : ℕ → ℕ → List ℕ → List ℕ → List ℕ → ℕ → Change → List ℕ → List ℕ → Type 0
+RowsMendedTo n cap ys marks starts active C work after =
+    (N : Net) → StartsOf N ys marks starts → RowsSound N cap starts work → RowsMendable cap ys marks starts active work → Kept N cap C starts work
+    → RowsAre N cap starts n after
+
+abbrev pub RowsMended : ℕ → List ℕ → List ℕ → List ℕ → ℕ → Change → List ℕ → List ℕ → Type 0
+RowsMended cap ys marks starts active C work after = RowsMendedTo (length starts) cap ys marks starts active C work after
+
+-- node v is active, so are the tails of those of the first m arcs that enter it, and no other is
 pub record Entering (m : ℕ) (ys : List ℕ) (v active : ℕ) : Type 0 where
   pub own : bitOf active v ≡ 1
   pub tails : (j : ℕ) → j < m → headIn ys j ≡ v → bitOf active (tailIn ys j) ≡ 1
+  pub only : (x : ℕ) → (x ≡ v → ⊥) → ((j : ℕ) → j < m → headIn ys j ≡ v → tailIn ys j ≡ x → ⊥) → bitOf active x ≡ 0
 
 -- What opening item i does: the rows hold the least lengths for the marks, and the rows that were another before are kept. An arc to a closed node
 -- changes nothing.
 pub record ItemOpened (n : ℕ) (xs : List ℕ) (i cap : ℕ) (marks ys starts work after : List ℕ) (kept : ℕ) : Type 0 where
   pub rows : (old : List ℕ) → Opened n xs old i marks ys starts → RowsAre (netOf n xs old) cap starts (length starts) work
       → RowsAre (netOf n xs marks) cap starts (length starts) after
-  pub saves : Saves (length starts) cap (ltb i n) (tailIn xs (i - n)) (headIn xs (i - n)) (weightIn xs (i - n)) work after kept
+  pub saves : Saves (length starts) cap (changeOf (ltb i n) (tailIn xs (i - n)) (headIn xs (i - n)) (weightIn xs (i - n))) work after kept
   pub shut : n ≤ i → closedIn marks (headIn xs (i - n)) ≡ true → kept ≡ 0

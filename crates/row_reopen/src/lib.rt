@@ -1,32 +1,31 @@
 // A forbidden item opened: the rows mended for it, and those that it cuts kept.
 ghost use mathlib.Core.Path.{_≡_};
 ghost use mathlib.Core.Bool.{true, false};
-ghost use Prim.Native.Nat.{ℕ, _+_, _*_, _≤_, _<_};
+ghost use Prim.Native.Nat.{_+_, _*_, _≤_, _<_};
 ghost use lib.ListN.{length, take};
 ghost use Rattle.rows.specs.Held.{missing};
-ghost use Rattle.rows.specs.Net.{Net, netOf, arcCount, Proper, Joins};
-ghost use Rattle.rows.specs.Rows.{Tried, RowIs, Sound, StartOf, rowAt, RowsAre, RowsSound, StartsOf, StartsFit};
-ghost use Rattle.row_spread.specs.Active.{Mendable};
+ghost use Rattle.rows.specs.Net.{netOf, arcCount, Proper, Joins};
+ghost use Rattle.rows.specs.Rows.{Tried, rowAt, StartsFit, scratchNumbers};
 ghost use Rattle.row_links.specs.Links.{Shaped};
-ghost use Rattle.row_reopen.specs.Openings.{Mends, Saves, Kept, RowsMendable, Entering, ItemOpened};
+ghost use Rattle.row_reopen.specs.Openings.{changeOf, Mends, RowMended, Saves, RowsMended, Entering, ItemOpened};
 use row_links::CHAINS;
 use row_spread::Mend;
-use rows::FORBIDDEN;
 use rows::ROW_LENGTH;
+use walks::FORBIDDEN;
 
 // Whether an arc can cut an entry of the row.
 fn cuts(row: &[u32], tail: usize, head: usize, weight: u32, cap: u32) -> bool
     requires { ⌜ (tail < length (now row)) × (head < length (now row)) × (cap < missing) ⌝ }
     ensures { λ r. ⌜ (r ≡ false → Tried cap (now (row .entry)) tail head weight) × (r ≡ true → Tried cap (now (row .entry)) tail head weight → ⊥) ⌝ }
 {
-    let d = row[tail];
-    if d > cap {
+    let here = row[tail];
+    if here > cap {
         return false;
     }
-    if weight > cap - d {
+    if weight > cap - here {
         return false;
     }
-    if d + weight < row[head] {
+    if here + weight < row[head] {
         return true;
     }
     false
@@ -44,7 +43,9 @@ pub struct Change {
 // Whether a row has to be mended: for a node always, for an arc where it can cut an entry.
 fn may_cut(row: &[u32], change: Change, cap: u32) -> bool
     requires { ⌜ (change .tail < length (now row)) × (change .head < length (now row)) × (cap < missing) ⌝ }
-    ensures { λ r. ⌜ (r ≡ false → (change .node ≡ false) × Tried cap (now (row .entry)) (change .tail) (change .head) (change .weight)) × (r ≡ true → change .node ≡ false → Tried cap (now (row .entry)) (change .tail) (change .head) (change .weight) → ⊥) ⌝ }
+    ensures { λ r.
+        let idle = Tried cap (now (row .entry)) (change .tail) (change .head) (change .weight) in
+        ⌜ (r ≡ false → (change .node ≡ false) × idle) × (r ≡ true → change .node ≡ false → idle → ⊥) ⌝ }
 {
     if change.node {
         return true;
@@ -63,10 +64,16 @@ pub struct Row {
 
 // Keeps the row and mends it, if it has to be mended, and gives the rows that are kept then.
 fn mend_kept(row: Row, change: Change, packed: &[u32], marks: &[u8], work: &mut [u32]) -> u64
-    requires { ⌜ Shaped (row .count) (now packed) × (row .number < 9) × (length (now work) ≡ 3648) ⌝ }
+    requires { ⌜ Shaped (row .count) (now packed) × (row .number < 9) × (length (now work) ≡ scratchNumbers) ⌝ }
     requires { ⌜ (row .from < 64) × (row .from < length (now marks)) × (row .cap < missing) × (change .tail < 64) × (change .head < 64) ⌝ }
-    ensures { λ r. ⌜ Mends (row .number) (row .cap) (change .node) (change .tail) (change .head) (change .weight) (row .kept) (now (work .entry)) (now (work .exit)) r ⌝ }
-    ensures { λ _. ⌜ ((N : Net) → StartOf N (take (row .count * 3) (now (packed .entry))) (now (marks .entry)) (row .from) → Sound N (row .cap) (row .from) (rowAt (now (work .entry)) (row .number)) → Mendable (row .cap) (take (row .count * 3) (now (packed .entry))) (now (marks .entry)) (row .from) (change .active) (rowAt (now (work .entry)) (row .number)) → (change .node ≡ false → Tried (row .cap) (rowAt (now (work .entry)) (row .number)) (change .tail) (change .head) (change .weight) → RowIs N (row .cap) (row .from) (rowAt (now (work .entry)) (row .number))) → RowIs N (row .cap) (row .from) (rowAt (now (work .exit)) (row .number))) ⌝ }
+    ensures { λ r.
+        let C = changeOf (change .node) (change .tail) (change .head) (change .weight) in
+        ⌜ Mends (row .number) (row .cap) C (row .kept) (now (work .entry)) (now (work .exit)) r ⌝ }
+    ensures { λ _.
+        let C = changeOf (change .node) (change .tail) (change .head) (change .weight) in
+        let ys = take (row .count * 3) (now (packed .entry)) in
+        let old = rowAt (now (work .entry)) (row .number) in
+        ⌜ RowMended (row .cap) ys (now (marks .entry)) (row .from) (change .active) C old (rowAt (now (work .exit)) (row .number)) ⌝ }
 {
     let number = row.number;
     let at = number * ROW_LENGTH;
@@ -74,15 +81,15 @@ fn mend_kept(row: Row, change: Change, packed: &[u32], marks: &[u8], work: &mut 
         return row.kept;
     }
     row_save::keep_row(work, number);
-    let n = row.count * 3;
-    let m = Mend {
+    let used = row.count * 3;
+    let mend = Mend {
         from: row.from,
         active: change.active,
         cap: row.cap,
     };
     row_spread::mend_row(
-        m,
-        &packed[..n],
+        mend,
+        &packed[..used],
         &packed[CHAINS..],
         marks,
         &mut work[at..at + ROW_LENGTH],
@@ -90,29 +97,33 @@ fn mend_kept(row: Row, change: Change, packed: &[u32], marks: &[u8], work: &mut 
     row.kept | 1u64 << number
 }
 
-// An item of a graph of `nodes` nodes that is opened, for walks to `to` of length at most `cap`, with `count` arcs packed; and whether it is a goal.
+// An item of a graph of `nodes` nodes that is opened, for walks of length at most `cap`, with `count` arcs packed.
 pub struct Opening {
     pub nodes: usize,
     pub item: usize,
-    pub to: usize,
     pub cap: u32,
-    pub goal: bool,
     pub count: usize,
 }
 
 // Mends every row that has to be mended, and gives those that were, one bit each; they are kept as they were.
 fn mend_rows(
-    o: Opening,
+    opening: Opening,
     change: Change,
     packed: &[u32],
     marks: &[u8],
     starts: &[usize],
     work: &mut [u32],
 ) -> u64
-    requires { ⌜ Shaped (o .count) (now packed) × StartsFit (now marks) (now starts) (now work) × (length (now starts) ≤ 9) × (length (now work) ≡ 3648) ⌝ }
-    requires { ⌜ (o .cap < missing) × (change .tail < 64) × (change .head < 64) ⌝ }
-    ensures { λ r. ⌜ Saves (length (now (starts .entry))) (o .cap) (change .node) (change .tail) (change .head) (change .weight) (now (work .entry)) (now (work .exit)) r ⌝ }
-    ensures { λ _. ⌜ ((N : Net) → StartsOf N (take (o .count * 3) (now (packed .entry))) (now (marks .entry)) (now (starts .entry)) → RowsSound N (o .cap) (now (starts .entry)) (now (work .entry)) → RowsMendable (o .cap) (take (o .count * 3) (now (packed .entry))) (now (marks .entry)) (now (starts .entry)) (change .active) (now (work .entry)) → Kept N (o .cap) (change .node) (change .tail) (change .head) (change .weight) (now (starts .entry)) (now (work .entry)) → RowsAre N (o .cap) (now (starts .entry)) (length (now (starts .entry))) (now (work .exit))) ⌝ }
+    requires { let n = length (now starts) in
+        ⌜ Shaped (opening .count) (now packed) × StartsFit (now marks) (now starts) (now work) × (n ≤ 9) × (length (now work) ≡ scratchNumbers) ⌝ }
+    requires { ⌜ (opening .cap < missing) × (change .tail < 64) × (change .head < 64) ⌝ }
+    ensures { λ r.
+        let C = changeOf (change .node) (change .tail) (change .head) (change .weight) in
+        ⌜ Saves (length (now (starts .entry))) (opening .cap) C (now (work .entry)) (now (work .exit)) r ⌝ }
+    ensures { λ _.
+        let C = changeOf (change .node) (change .tail) (change .head) (change .weight) in
+        let ys = take (opening .count * 3) (now (packed .entry)) in
+        ⌜ RowsMended (opening .cap) ys (now (marks .entry)) (now (starts .entry)) (change .active) C (now (work .entry)) (now (work .exit)) ⌝ }
 {
     let mut kept: u64 = 0;
     let mut i = 0;
@@ -120,8 +131,8 @@ fn mend_rows(
         let row = Row {
             number: i,
             from: starts[i],
-            count: o.count,
-            cap: o.cap,
+            count: opening.count,
+            cap: opening.cap,
             kept,
         };
         kept = mend_kept(row, change, packed, marks, work);
@@ -150,29 +161,35 @@ fn entering(packed: &[u32], node: usize) -> u64
 // The rows once the item is opened. The rows that were mended are kept as they were; it gives which, one bit each. An arc to a forbidden node changes
 // nothing.
 pub fn open_item(
-    o: Opening,
+    opening: Opening,
     arcs: &[u32],
     marks: &[u8],
     packed: &[u32],
     starts: &[usize],
     work: &mut [u32],
 ) -> u64
-    requires { ⌜ Proper (netOf (o .nodes) (now arcs) (now marks)) × (o .item < o .nodes + arcCount (now arcs)) × (o .cap < missing) ⌝ }
-    requires { ⌜ Shaped (o .count) (now packed) × StartsFit (now marks) (now starts) (now work) × (length (now starts) ≤ 9) × (length (now work) ≡ 3648) ⌝ }
-    ensures { λ r. ⌜ ItemOpened (o .nodes) (now (arcs .entry)) (o .item) (o .cap) (now (marks .entry)) (take (o .count * 3) (now (packed .entry))) (now (starts .entry)) (now (work .entry)) (now (work .exit)) r ⌝ }
+    requires { let N = netOf (opening .nodes) (now arcs) (now marks) in
+        ⌜ Proper N × (opening .item < opening .nodes + arcCount (now arcs)) × (opening .cap < missing) ⌝ }
+    requires { let n = length (now starts) in
+        ⌜ Shaped (opening .count) (now packed) × StartsFit (now marks) (now starts) (now work) × (n ≤ 9) × (length (now work) ≡ scratchNumbers) ⌝ }
+    ensures { λ r.
+        let xs = now (arcs .entry) in
+        let ys = take (opening .count * 3) (now (packed .entry)) in
+        let before = now (work .entry) in
+        ⌜ ItemOpened (opening .nodes) xs (opening .item) (opening .cap) (now (marks .entry)) ys (now (starts .entry)) before (now (work .exit)) r ⌝ }
 {
-    let nodes = o.nodes;
-    let item = o.item;
+    let nodes = opening.nodes;
+    let item = opening.item;
     if item < nodes {
-        let n = o.count * 3;
+        let used = opening.count * 3;
         let change = Change {
-            active: entering(&packed[..n], item),
+            active: entering(&packed[..used], item),
             node: true,
             tail: 0,
             head: 0,
             weight: 0,
         };
-        return mend_rows(o, change, packed, marks, starts, work);
+        return mend_rows(opening, change, packed, marks, starts, work);
     }
     let at = (item - nodes) * 3;
     let tail = arcs[at] as usize;
@@ -187,5 +204,5 @@ pub fn open_item(
         head,
         weight: arcs[at + 2],
     };
-    mend_rows(o, change, packed, marks, starts, work)
+    mend_rows(opening, change, packed, marks, starts, work)
 }

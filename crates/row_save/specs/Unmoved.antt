@@ -5,6 +5,10 @@ use mathlib.Core.List.{List}
 use lib.ListN.{getD}
 use Rattle.rows.specs.Bits.{bitOf}
 
+-- each of k goals is entered at a node that a row has
+abbrev pub Entered : ℕ → List ℕ → Type 0
+Entered k work = (i : ℕ) → i < k → getD work (576 + i) 0 < 64
+
 -- row i has the same entry at v as the row that was kept
 abbrev pub Stays : List ℕ → ℕ → ℕ → Type 0
 Stays work i v = getD work (3072 + i * 64 + v) 0 ≡ getD work (i * 64 + v) 0

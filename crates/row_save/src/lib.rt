@@ -2,18 +2,17 @@
 ghost use mathlib.Core.Path.{_≡_};
 ghost use mathlib.Core.Bool.{true, false};
 ghost use mathlib.Core.Logic.{_⊎_};
-ghost use Prim.Native.Nat.{ℕ, _+_, _*_, _≤_, _<_};
+ghost use Prim.Native.Nat.{_+_, _*_, _≤_, _<_};
 ghost use lib.Dec.{eqb};
-ghost use lib.ListN.{length, getD};
+ghost use lib.ListN.{length};
 ghost use Rattle.rows.specs.Bits.{bitOf};
 ghost use Rattle.row_save.specs.Kept.{RowPut, PutBack};
-ghost use Rattle.row_save.specs.Unmoved.{UnmovedAt, Unmoved, Moved};
+ghost use Rattle.rows.specs.Rows.{scratchNumbers};
+ghost use Rattle.row_save.specs.Unmoved.{Entered, UnmovedAt, Unmoved, Moved};
+use rows::ENTRIES;
 use rows::ROW_LENGTH;
 
-// Where things lie in the work: the rows of 64 numbers each from 0 on, the node where each goal is entered, and the rows as they were before an
-// item was opened.
-const ENTRIES: usize = 576;
-
+// Where the work has the rows as they were before an item was opened: behind the rows, the goals' entries and the table.
 const KEPT: usize = 3072;
 
 // Copies the row that begins at `from` over the one that begins at `to`.
@@ -30,7 +29,7 @@ fn copy_row(work: &mut [u32], from: usize, to: usize)
 
 // Keeps row `row`.
 pub fn keep_row(work: &mut [u32], row: usize)
-    requires { ⌜ (row < 9) × (length (now work) ≡ 3648) ⌝ }
+    requires { ⌜ (row < 9) × (length (now work) ≡ scratchNumbers) ⌝ }
     ensures { λ _. ⌜ RowPut (now (work .entry)) (row * 64) (3072 + row * 64) (now (work .exit)) ⌝ }
 {
     let at = row * ROW_LENGTH;
@@ -47,8 +46,9 @@ fn is_kept(kept: u64, row: usize) -> bool
 
 // Puts row `row` back, if it is kept.
 fn put_row_back(work: &mut [u32], row: usize, kept: u64)
-    requires { ⌜ (row < 9) × (length (now work) ≡ 3648) ⌝ }
-    ensures { λ _. ⌜ (bitOf kept row ≡ 1 → RowPut (now (work .entry)) (3072 + row * 64) (row * 64) (now (work .exit))) × (bitOf kept row ≡ 0 → now (work .exit) ≡ now (work .entry)) ⌝ }
+    requires { ⌜ (row < 9) × (length (now work) ≡ scratchNumbers) ⌝ }
+    ensures { λ _. ⌜ (bitOf kept row ≡ 1 → RowPut (now (work .entry)) (3072 + row * 64) (row * 64) (now (work .exit))) ⌝ }
+    ensures { λ _. ⌜ (bitOf kept row ≡ 0 → now (work .exit) ≡ now (work .entry)) ⌝ }
 {
     if is_kept(kept, row) {
         let at = row * ROW_LENGTH;
@@ -58,7 +58,7 @@ fn put_row_back(work: &mut [u32], row: usize, kept: u64)
 
 // Puts those of the first `rows` rows back that are kept.
 pub fn put_back(work: &mut [u32], rows: usize, kept: u64)
-    requires { ⌜ (rows ≤ 9) × (length (now work) ≡ 3648) ⌝ }
+    requires { ⌜ (rows ≤ 9) × (length (now work) ≡ scratchNumbers) ⌝ }
     ensures { λ _. ⌜ PutBack (now (work .entry)) rows kept (now (work .exit)) ⌝ }
 {
     let mut i = 0;
@@ -70,7 +70,7 @@ pub fn put_back(work: &mut [u32], rows: usize, kept: u64)
 
 // Whether an entry of row `row` that matters, at the target or where a goal is entered, is another than in the kept row.
 fn row_moved(work: &[u32], row: usize, count: usize, to: usize) -> bool
-    requires { ⌜ (length (now work) ≡ 3648) × (row < 9) × (count ≤ 8) × (to < 64) × ((i : ℕ) → i < count → getD (now work) (576 + i) 0 < 64) ⌝ }
+    requires { ⌜ (length (now work) ≡ scratchNumbers) × (row < 9) × (count ≤ 8) × (to < 64) × Entered count (now work) ⌝ }
     ensures { λ r. ⌜ (r ≡ false → UnmovedAt (now (work .entry)) row count to) × (r ≡ true → UnmovedAt (now (work .entry)) row count to → ⊥) ⌝ }
 {
     let at = row * ROW_LENGTH;
@@ -79,8 +79,8 @@ fn row_moved(work: &[u32], row: usize, count: usize, to: usize) -> bool
     }
     let mut j = 0;
     while j < count {
-        let v = work[ENTRIES + j] as usize;
-        if work[KEPT + at + v] != work[at + v] {
+        let node = work[ENTRIES + j] as usize;
+        if work[KEPT + at + node] != work[at + node] {
             return true;
         }
         j += 1;
@@ -90,8 +90,9 @@ fn row_moved(work: &[u32], row: usize, count: usize, to: usize) -> bool
 
 // The same of a row only if it is kept.
 fn kept_moved(work: &[u32], row: usize, kept: u64, count: usize, to: usize) -> bool
-    requires { ⌜ (length (now work) ≡ 3648) × (row < 9) × (count ≤ 8) × (to < 64) × ((i : ℕ) → i < count → getD (now work) (576 + i) 0 < 64) ⌝ }
-    ensures { λ r. ⌜ (r ≡ false → bitOf kept row ≡ 1 → UnmovedAt (now (work .entry)) row count to) × (r ≡ true → (bitOf kept row ≡ 1) × (UnmovedAt (now (work .entry)) row count to → ⊥)) ⌝ }
+    requires { ⌜ (length (now work) ≡ scratchNumbers) × (row < 9) × (count ≤ 8) × (to < 64) × Entered count (now work) ⌝ }
+    ensures { λ r. ⌜ (r ≡ false → bitOf kept row ≡ 1 → UnmovedAt (now (work .entry)) row count to) ⌝ }
+    ensures { λ r. ⌜ (r ≡ true → (bitOf kept row ≡ 1) × (UnmovedAt (now (work .entry)) row count to → ⊥)) ⌝ }
 {
     if is_kept(kept, row) {
         return row_moved(work, row, count, to);
@@ -101,7 +102,7 @@ fn kept_moved(work: &[u32], row: usize, kept: u64, count: usize, to: usize) -> b
 
 // Whether such an entry is another in any of the first `rows` rows that are kept.
 pub fn moved(work: &[u32], rows: usize, kept: u64, count: usize, to: usize) -> bool
-    requires { ⌜ (length (now work) ≡ 3648) × (rows ≤ 9) × (count ≤ 8) × (to < 64) × ((i : ℕ) → i < count → getD (now work) (576 + i) 0 < 64) ⌝ }
+    requires { ⌜ (length (now work) ≡ scratchNumbers) × (rows ≤ 9) × (count ≤ 8) × (to < 64) × Entered count (now work) ⌝ }
     ensures { λ r. ⌜ (r ≡ false → Unmoved (now (work .entry)) rows kept count to) × (r ≡ true → Moved (now (work .entry)) rows kept count to) ⌝ }
 {
     let mut i = 0;

@@ -16,7 +16,7 @@ use Rattle.rows.proofs.RowLaws.{Fits, falls, keep}
 use Rattle.rows.specs.Bits.{bitOf, alone}
 use Rattle.row_spread.specs.Active.{Still, Tries, idle, fell, Mendable, Added, none, more}
 use Rattle.row_spread.specs.Arcs.{lastAt, Chained}
-use Rattle.rows.proofs.BitLaws.{card, card-small, card-less, added-own, added-less, taken-own, taken-other}
+use Rattle.rows.proofs.BitLaws.{card, card-small, card-less, added-own, taken-own, taken-other, added-other}
 use Rattle.row_spread.proofs.ChainLaws.{last-at, last-none}
 
 -- a head's entry that is cut lets no arc to it cut
@@ -38,7 +38,15 @@ module _ {cap : ℕ} {xs : List ℕ} {i : ℕ} {d : List ℕ} {active : ℕ} (he
 
   pub added-more : {e : List ℕ} {b : Bool} → b ≡ true → ArcTried cap xs d i e b → Added cap xs i d active e (bitOr active (alone (headIn xs i)))
   added-more q (same t) = absurd (false≢true q)
-  added-more q (cut c lt) = more c lt (added-own active (headIn xs i) heads) (λ x. added-less active (headIn xs i) x)
+  added-more q (cut c lt) = more c lt (added-own active (headIn xs i) heads) (λ x. added-other active (headIn xs i) x heads)
+
+-- no other node is taken off
+added-less : (r active h : ℕ) → bitOf r h ≡ 1 → ((x : ℕ) → (x ≡ h → ⊥) → bitOf r x ≡ bitOf active x) → (x : ℕ) → bitOf r x ≡ 0 → bitOf active x ≡ 0
+added-less r active h o a x z = go (ℕ-discrete x h)
+  where
+    go : Dec (x ≡ h) → bitOf active x ≡ 0
+    go (yes q) = absurd (let one : bitOf r x ≡ 1 = rw q o in omega arith)
+    go (no q) = sym (a x q) ∙ z
 
 -- the arcs of u from number k on are tried, and those of all other nodes that are not active
 pub record Waiting (cap : ℕ) (xs : List ℕ) (active u k : ℕ) (d : List ℕ) : Type 0 where
@@ -95,7 +103,7 @@ module _ {cap : ℕ} {xs : List ℕ} {i : ℕ} {d : List ℕ} {active : ℕ} (f 
 
       go : {e : List ℕ} {r : ℕ} → Added cap xs i d active e r → Waiting cap xs r u (lastAt (tailIn xs) (tailIn xs i) i) e
       go (none t) = kept t
-      go (more {r = r} c lt o a) = record { tried = λ j h b l. cuts r lt o a j (ℕ-discrete j i) h b l }
+      go (more {r = r} c lt o a) = record { tried = λ j h b l. cuts r lt o (added-less r active (headIn xs i) o a) j (ℕ-discrete j i) h b l }
 
 -- a node's arcs: none is tried yet, and all are
 module _ (xs : List ℕ) {chains : List ℕ} (C : Chained xs chains) where

@@ -3,15 +3,16 @@ ghost use mathlib.Core.Path.{_≡_};
 ghost use Prim.Native.Nat.{ℕ, _*_, _≤_, _<_};
 ghost use lib.ListN.{length};
 ghost use Rattle.rows.specs.Held.{missing};
-ghost use Rattle.rows.specs.Net.{Net, arcCount, Joins};
-ghost use Rattle.rows.specs.Rows.{RowIs, Sound, Keeps, Settled, StartOf};
+ghost use Rattle.rows.specs.Net.{arcCount, Joins};
+ghost use Rattle.rows.specs.Rows.{Keeps, Settled};
 ghost use Rattle.rows.specs.Bits.{bitOf};
-ghost use Rattle.row_spread.specs.Active.{Still, Nearest, Tries, Added, Mendable};
+ghost use Rattle.row_spread.specs.Active.{Still, Nearest, Tries, Added, Mended};
 ghost use Rattle.row_spread.specs.Arcs.{Chained};
 use rows::ROW_LENGTH;
+use walks::ARCS;
 
 // The numbers of the arcs chained by their tails, one for each node and one for each arc.
-const CHAIN_NUMBERS: usize = 576;
+pub const CHAIN_NUMBERS: usize = ROW_LENGTH + ARCS;
 
 // Chains the arcs by their tails: number `u` leads to the last arc that leaves node `u`, number 64 + `i` from arc `i` to the one before it.
 pub fn chained(arcs: &[u32]) -> [u32; CHAIN_NUMBERS]
@@ -30,37 +31,37 @@ pub fn chained(arcs: &[u32]) -> [u32; CHAIN_NUMBERS]
     chains
 }
 
-// Tries arc `i`. Where its head's entry is cut, the head is added to the active nodes: those whose arcs are to be tried, one bit each.
-fn try_adding(arcs: &[u32], row: &mut [u32], i: usize, active: u64, cap: u32) -> u64
-    requires { ⌜ Joins 64 (now arcs) × (length (now row) ≡ 64) × (i < arcCount (now arcs)) ⌝ }
-    ensures { λ r. ⌜ Added cap (now (arcs .entry)) i (now (row .entry)) active (now (row .exit)) r ⌝ }
+// Tries the arc. Where its head's entry is cut, the head is added to the active nodes: those whose arcs are to be tried, one bit each.
+fn try_adding(arcs: &[u32], row: &mut [u32], arc: usize, active: u64, cap: u32) -> u64
+    requires { ⌜ Joins 64 (now arcs) × (length (now row) ≡ 64) × (arc < arcCount (now arcs)) ⌝ }
+    ensures { λ r. ⌜ Added cap (now (arcs .entry)) arc (now (row .entry)) active (now (row .exit)) r ⌝ }
 {
-    if rows::try_arc(arcs, row, i, cap) {
-        return active | 1u64 << arcs[i * 3 + 1];
+    if rows::try_arc(arcs, row, arc, cap) {
+        return active | 1u64 << arcs[arc * 3 + 1];
     }
     active
 }
 
-// Takes the active node `u` off and tries the arcs that leave it.
+// Takes the active node off and tries the arcs that leave it.
 fn spread_node(
     arcs: &[u32],
     chains: &[u32],
     row: &mut [u32],
-    u: usize,
+    node: usize,
     active: u64,
     cap: u32,
 ) -> u64
-    requires { ⌜ Joins 64 (now arcs) × Chained (now arcs) (now chains) × (length (now row) ≡ 64) × (u < 64) × (bitOf active u ≡ 1) ⌝ }
+    requires { ⌜ Joins 64 (now arcs) × Chained (now arcs) (now chains) × (length (now row) ≡ 64) × (node < 64) × (bitOf active node ≡ 1) ⌝ }
     ensures { λ _. ⌜ Keeps cap (now (arcs .entry)) (now (row .entry)) (now (row .exit)) ⌝ }
     ensures { λ r. ⌜ (Still cap (now (arcs .entry)) active (now (row .entry)) → Still cap (now (arcs .entry)) r (now (row .exit))) ⌝ }
-    ensures { λ r. ⌜ Tries (now (row .entry)) ((bitOf r u ≡ 0) × ((x : ℕ) → bitOf active x ≡ 0 → bitOf r x ≡ 0)) (now (row .exit)) ⌝ }
+    ensures { λ r. ⌜ Tries (now (row .entry)) ((bitOf r node ≡ 0) × ((x : ℕ) → bitOf active x ≡ 0 → bitOf r x ≡ 0)) (now (row .exit)) ⌝ }
 {
-    let mut left = active ^ 1u64 << u;
-    let mut k = chains[u];
-    while k > 0 {
-        let i = k as usize - 1;
-        left = try_adding(arcs, row, i, left, cap);
-        k = chains[ROW_LENGTH + i];
+    let mut left = active ^ 1u64 << node;
+    let mut link = chains[node];
+    while link > 0 {
+        let arc = link as usize - 1;
+        left = try_adding(arcs, row, arc, left, cap);
+        link = chains[ROW_LENGTH + arc];
     }
     left
 }
@@ -73,9 +74,9 @@ fn nearest(row: &[u32], active: u64) -> usize
     let mut best = u64::trailing_zeros(active) as usize;
     let mut rest = active & (active - 1);
     while rest != 0 {
-        let u = u64::trailing_zeros(rest) as usize;
-        if row[u] < row[best] {
-            best = u;
+        let node = u64::trailing_zeros(rest) as usize;
+        if row[node] < row[best] {
+            best = node;
         }
         rest = rest & (rest - 1);
     }
@@ -87,12 +88,14 @@ fn nearest(row: &[u32], active: u64) -> usize
 fn spread_active(arcs: &[u32], chains: &[u32], row: &mut [u32], active: u64, cap: u32)
     requires { ⌜ Joins 64 (now arcs) × Chained (now arcs) (now chains) × (length (now row) ≡ 64) ⌝ }
     ensures { λ _. ⌜ Keeps cap (now (arcs .entry)) (now (row .entry)) (now (row .exit)) ⌝ }
-    ensures { λ _. ⌜ (Still cap (now (arcs .entry)) active (now (row .entry)) → Settled cap (now (arcs .entry)) 0 (arcCount (now (arcs .entry))) (now (row .exit))) ⌝ }
+    ensures { λ _.
+        let xs = now (arcs .entry) in
+        ⌜ (Still cap xs active (now (row .entry)) → Settled cap xs 0 (arcCount xs) (now (row .exit))) ⌝ }
 {
     let mut left = active;
     while left != 0 {
-        let u = nearest(row, left);
-        left = spread_node(arcs, chains, row, u, left, cap);
+        let node = nearest(row, left);
+        left = spread_node(arcs, chains, row, node, left, cap);
     }
 }
 
@@ -106,12 +109,14 @@ pub struct Mend {
 // Leaves in `row` the least length from the start to each node over the packed arcs; MISSING above the cap. The row comes in sound: each entry
 // MISSING or the length of such a walk, and no arc whose tail is not active can cut an entry. So is an empty row with its start active, and a row made
 // when more items were forbidden with the tails of the opened arcs active.
-pub fn mend_row(m: Mend, arcs: &[u32], chains: &[u32], marks: &[u8], row: &mut [u32])
+pub fn mend_row(mend: Mend, arcs: &[u32], chains: &[u32], marks: &[u8], row: &mut [u32])
     requires { ⌜ Joins 64 (now arcs) × Chained (now arcs) (now chains) ⌝ }
-    requires { ⌜ (length (now row) ≡ 64) × (m .from < 64) × (m .from < length (now marks)) × (m .cap < missing) ⌝ }
-    ensures { λ _. ⌜ ((N : Net) → StartOf N (now (arcs .entry)) (now (marks .entry)) (m .from) → Sound N (m .cap) (m .from) (now (row .entry)) → Mendable (m .cap) (now (arcs .entry)) (now (marks .entry)) (m .from) (m .active) (now (row .entry)) → RowIs N (m .cap) (m .from) (now (row .exit))) ⌝ }
+    requires { ⌜ (length (now row) ≡ 64) × (mend .from < 64) × (mend .from < length (now marks)) × (mend .cap < missing) ⌝ }
+    ensures { λ _.
+        let xs = now (arcs .entry) in
+        ⌜ Mended (mend .cap) xs (now (marks .entry)) (mend .from) (mend .active) (now (row .entry)) (now (row .exit)) ⌝ }
 {
-    let cap = m.cap;
-    rows::start(marks, m.from, row);
-    spread_active(arcs, chains, row, m.active, cap);
+    let cap = mend.cap;
+    rows::start(marks, mend.from, row);
+    spread_active(arcs, chains, row, mend.active, cap);
 }

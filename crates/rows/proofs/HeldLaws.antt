@@ -36,13 +36,13 @@ is-held {cap} {r} (high a) = go r a
     go none a = refl
     go (some k) a = rw (lt-leb k cap a)
 
-above-left : (cap : ℕ) (p q : Least) → Above cap p → Above cap (plus p q)
+pub above-left : (cap : ℕ) (p q : Least) → Above cap p → Above cap (plus p q)
 unfolding plus
 above-left cap none q a = tt
 above-left cap (some j) none a = tt
 above-left cap (some j) (some k) a = omega arith
 
-above-right : (cap : ℕ) (p q : Least) → Above cap q → Above cap (plus p q)
+pub above-right : (cap : ℕ) (p q : Least) → Above cap q → Above cap (plus p q)
 unfolding plus
 above-right cap none q a = tt
 above-right cap (some j) none a = tt
@@ -65,18 +65,18 @@ sum-low c h (low l e) (low m f) = low h (rw (e, f))
 sum-low c h (low l e) (high a) = absurd (omega arith)
 sum-low c h (high a) Q = absurd (omega arith)
 
-lesser-above : (cap : ℕ) (p q : Least) → Above cap p → Above cap q → Above cap (lesser p q)
+pub lesser-above : (cap : ℕ) (p q : Least) → Above cap p → Above cap q → Above cap (lesser p q)
 unfolding lesser
 lesser-above cap none q a b = b
 lesser-above cap (some j) none a b = a
 lesser-above cap (some j) (some k) a b = omega arith
 
-lesser-right : (cap k : ℕ) (p : Least) → Above cap p → k ≤ cap → lesser p (some k) ≡ some k
+pub lesser-right : (cap k : ℕ) (p : Least) → Above cap p → k ≤ cap → lesser p (some k) ≡ some k
 unfolding lesser
 lesser-right cap k none a h = refl
 lesser-right cap k (some j) a h = ap some (omega arith)
 
-lesser-left : (cap k : ℕ) (p : Least) → Above cap p → k ≤ cap → lesser (some k) p ≡ some k
+pub lesser-left : (cap k : ℕ) (p : Least) → Above cap p → k ≤ cap → lesser (some k) p ≡ some k
 unfolding lesser
 lesser-left cap k none a h = refl
 lesser-left cap k (some j) a h = ap some (omega arith)

@@ -6,6 +6,8 @@ use native.Mathlib.Omega.{arith}
 use lib.ListN.{length, take}
 use lib.Seq.{take-at}
 use Rattle.sheet.specs.declared.Header.{Header}
+use Rattle.sheet_reader.specs.Loaded.{Loaded, ReadAs}
+use Rattle.sheet_reader.specs.declared.SheetRead.{SheetRead}
 use Rattle.sheet_reader.specs.declared.SheetRead.the-variants.{Got, Refused}
 use Rattle.lists.specs.Lists.{front}
 use Rattle.sheet_reader.proofs.TakenLaws.{taken-begun}
@@ -21,13 +23,6 @@ use Rattle.varint.specs.Varint.{Read, got, refuse}
 use Rattle.walks.proofs.FlatLaws.{arcs-flat, length-flat}
 use Rattle.walks.specs.Flat.{graphOf, flat}
 use Rattle.walks.specs.Graph.{Arc, tailOf, headOf, itemCount, Graph}
-
--- the sheet, what was read of it, and that both are the same
-pub record Loaded (sheet : List ℕ) (h : Header) (arcs marks : List ℕ) : Type 0 where
-  pub read : Sheet
-  pub took : taken sheet ≡ got read []
-  pub same : sheetOf h arcs marks ≡ read
-  pub whole : Whole h arcs marks
 
 -- arcs in one list of numbers make the same graph
 same-graph : (S : Sheet) → graphOf (S .graph .nodes) (flat (S .graph .arcs)) ≡ S .graph
@@ -62,7 +57,7 @@ module _ (S : Sheet) (g : Good S) where
   }
 
 -- what a read that took the sheet leaves in front of the arrays
-pub loaded : (sheet d e arcs marks : List ℕ) (h : Header) → Got h ≡ answered (taken sheet) → arcs ≡ front (flat (arcsBegun sheet)) d → marks ≡ front (marksBegun sheet) e
+loaded : (sheet d e arcs marks : List ℕ) (h : Header) → Got h ≡ answered (taken sheet) → arcs ≡ front (flat (arcsBegun sheet)) d → marks ≡ front (marksBegun sheet) e
     → Loaded sheet h (take (3 * h .arcs) arcs) (take (h .nodes + h .arcs) marks)
 unfolding answered headerOf
 loaded sheet d e arcs marks h q a m = go (taken sheet) refl q
@@ -76,16 +71,22 @@ loaded sheet d e arcs marks h q a m = go (taken sheet) refl q
         let g = taken-good sheet S (T .0) in
         let x : take (3 * h .arcs) arcs ≡ flat (S .graph .arcs) = rw (a, hs, b .0) (take-at (flat (S .graph .arcs)) _ (3 * length (S .graph .arcs)) (length-flat (S .graph .arcs))) in
         let y : take (h .nodes + h .arcs) marks ≡ S .marks = rw (m, hs, b .1) (take-at (S .marks) _ (itemCount (S .graph)) (g .size)) in
-        rw (x, y, hs) (record { read = S; took = p ∙ ap (got S) (T .1); same = same-sheet S; whole = sheet-whole S g (T .0 .few) })
+        rw (x, y, hs) (record { makes = p ∙ ap (got S) (T .1) ∙ ap (λ (Q : Sheet). got Q []) (sym (same-sheet S)); whole = sheet-whole S g (T .0 .few) })
       where
         took-is : (k : Header) → Got h ≡ Got k → h ≡ k
         took-is k e = cc
 
 -- a read that refused the sheet
-pub unloaded : (sheet : List ℕ) (w : ℕ) → Refused w ≡ answered (taken sheet) → taken sheet ≡ refuse w
+unloaded : (sheet : List ℕ) (w : ℕ) → Refused w ≡ answered (taken sheet) → taken sheet ≡ refuse w
 unfolding answered
 unloaded sheet w q = go (taken sheet) q
   where
     go : (r : Read Sheet) → Refused w ≡ answered r → r ≡ refuse w
     go (refuse v) z = let y : w ≡ v = cc in rw y
     go (got S rest) z = absurd (let y : _≡_ {A = ℕ} 0 1 = cc in omega arith)
+
+-- what a read gives and leaves, as its callers meet it
+pub read-as : (sheet d e arcs marks : List ℕ) (r : SheetRead) → r ≡ answered (taken sheet) → arcs ≡ front (flat (arcsBegun sheet)) d → marks ≡ front (marksBegun sheet) e
+    → ReadAs sheet r arcs marks
+read-as sheet d e arcs marks r q a m =
+    record { took = λ h z. loaded sheet d e arcs marks h (sym z ∙ q) a m; refused = λ w z. unloaded sheet w (sym z ∙ q) }

@@ -9,23 +9,23 @@ ghost use Rattle.walks.specs.Flat.{flat};
 ghost use Rattle.sheet.specs.Sheet.{required};
 ghost use Rattle.sheet.specs.Reader.{readArcs, complete, taken};
 ghost use Rattle.sheet_required.specs.Held.{sheetOf};
+ghost use Rattle.sheet_reader.specs.Loaded.{ReadAs};
 ghost use Rattle.sheet_reader.specs.Answer.{arcsBehind, marksBehind, answered, arcsBegun, marksBegun};
 use numbers::SectionRead;
 use sheet::Header;
 use sheet_parts::HeaderRead;
-
-const REQUIRED_MOST: usize = 8;
+use walks::GOALS;
 
 // Whether at most eight nodes are required; the arcs' numbers and the marks stand in front.
 fn few_required(header: Header, arcs: &[u32], marks: &[u8]) -> bool
     requires { ⌜ (header .nodes ≤ 64) × (header .arcs ≤ 512) × (1536 ≤ length (now arcs)) × (576 ≤ length (now marks)) ⌝ }
-    ensures { λ r. ⌜ r ≡ leb (length (required (sheetOf header (take (3 * header .arcs) (now (arcs .entry))) (take (header .nodes + header .arcs) (now (marks .entry)))))) 8 ⌝ }
+    ensures { λ r. let xs = take (3 * header .arcs) (now (arcs .entry)) in
+        let ms = take (header .nodes + header .arcs) (now (marks .entry)) in ⌜ r ≡ leb (length (required (sheetOf header xs ms))) 8 ⌝ }
 {
     let numbers = 3 * header.arcs;
     let items = header.nodes + header.arcs;
-    let mut nodes = [0usize; 64];
-    sheet_required::required_nodes(header, &arcs[..numbers], &marks[..items], &mut nodes)
-        <= REQUIRED_MOST
+    let mut nodes = [0usize; GOALS];
+    sheet_required::required_nodes(header, &arcs[..numbers], &marks[..items], &mut nodes) <= GOALS
 }
 
 // A sheet that was taken, by the five numbers in front of it, or the refusal, 3 to 13.
@@ -61,12 +61,13 @@ fn read_behind(header: Header, section: &[u8], arcs: &mut [u32], marks: &mut [u8
 }
 
 // Reads a sheet. The numbers of its arcs, three each, are stored over the front of `arcs`, its marks over the front of `marks`; a refused sheet
-// leaves there what was read before the fault.
+// leaves there what was read before the fault. The last clause follows from the first three; it is what callers use.
 pub fn read(sheet: &[u8], arcs: &mut [u32], marks: &mut [u8]) -> SheetRead
     requires { ⌜ (1536 ≤ length (now arcs)) × (576 ≤ length (now marks)) ⌝ }
     ensures { λ r. ⌜ r ≡ answered (taken (now (sheet .entry))) ⌝ }
     ensures { λ _. ⌜ now (arcs .exit) ≡ front (flat (arcsBegun (now (sheet .entry)))) (now (arcs .entry)) ⌝ }
     ensures { λ _. ⌜ now (marks .exit) ≡ front (marksBegun (now (sheet .entry))) (now (marks .entry)) ⌝ }
+    ensures { λ r. ⌜ ReadAs (now (sheet .entry)) r (now (arcs .exit)) (now (marks .exit)) ⌝ }
 {
     match sheet_parts::header_of(sheet) {
         HeaderRead::Got(header, at) => read_behind(header, &sheet[at..], arcs, marks),

@@ -1,17 +1,17 @@
 -- Small laws of a sheet as the code has it, and of lists that are written to the front of an array. Assumes nothing.
-use Prim.Native.Nat.{ℕ, zero, suc, _+_, _<_}
+use Prim.Native.Nat.{ℕ, zero, suc, _+_, _≤_, _<_}
 use mathlib.Core.Path.{_≡_, sym, ap, _∙_}
 use mathlib.Core.List.{List, [], _∷_}
 use native.Mathlib.Omega.{arith}
 use lib.ListN.{length, getD, take, drop}
-use lib.Seq.{take-at, drop-drop}
+use lib.Seq.{take-at, take-all}
 use Rattle.lists.proofs.Pigeonhole.{Below}
-use Rattle.lists.specs.Lists.{front}
+use Rattle.lists.specs.Lists.{front, Put}
 use Rattle.walks.specs.Flat.{graphOf}
 use Rattle.walks.specs.Graph.{itemCount}
 use Rattle.walks.proofs.FlatLaws.{arcs-count}
 use Rattle.sheet.specs.declared.Header.{Header}
-use Rattle.sheet_required.specs.Held.{Whole}
+use Rattle.sheet_required.specs.Held.{Whole, RoomListed}
 
 -- the items that the header counts
 pub items-are : {h : Header} {arcs marks : List ℕ} → Whole h arcs marks → itemCount (graphOf (h .nodes) arcs) ≡ h .nodes + h .arcs
@@ -27,9 +27,13 @@ goals-at n (suc i) (x ∷ xs) b l = goals-at n i xs (b .1) (omega arith)
 front-take : (xs d : List ℕ) (n : ℕ) → n ≡ length xs → take n (front xs d) ≡ xs
 front-take xs d n e = take-at xs (drop (length xs) d) n (sym e)
 
-pub listed-front : (xs out d : List ℕ) (n : ℕ) → (n ≡ length xs) × (out ≡ front xs d) → take n out ≡ xs
+pub listed-front : (xs out d : List ℕ) (n : ℕ) → Put xs d out n → take n out ≡ xs
 listed-front xs out d n e = ap (take n) (e .1) ∙ front-take xs d n (e .0)
 
--- what is kept behind 3,072 numbers is kept behind 16,384
-pub drop-more : (xs ys : List ℕ) → drop 3072 xs ≡ drop 3072 ys → drop 16384 xs ≡ drop 16384 ys
-drop-more xs ys e = sym (drop-drop 13312 3072 xs) ∙ ap (drop 13312) e ∙ drop-drop 13312 3072 ys
+-- where the list has room for all, they stand in front
+pub room-exact : {xs old list : List ℕ} {n : ℕ} → RoomListed xs old list n → n ≤ length old → Put xs old list n
+room-exact {xs} {old} w l =
+    (w .counted, w .written ∙ ap (λ (ys : List ℕ). front ys old) (take-all (length old) xs (omega (arith, w .counted))))
+
+pub room-front : {xs old list : List ℕ} {n : ℕ} → RoomListed xs old list n → length xs ≤ length old → take n list ≡ xs
+room-front {xs} {old} {list} {n} w l = listed-front xs list old n (room-exact w (omega (arith, w .counted)))

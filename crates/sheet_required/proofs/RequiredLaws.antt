@@ -6,18 +6,18 @@ use mathlib.Core.List.{List, [], _∷_, _++_, append-assoc, append-nil}
 use mathlib.Core.Bool.{Bool, true, false, not, _&&_, _||_}
 use native.Mathlib.Omega.{arith}
 use native.Mathlib.Numerals.{add-one}
-use lib.Dec.{eqb}
-use lib.ListN.{length, getD, set, replicate, getD-replicate, length-append, length-set}
-use lib.Seq.{getD-set-same, getD-set-other}
-use borrow.Author.Tests.{eqb-true, eqb-false}
+use lib.Dec.{eqb, ltb}
+use lib.ListN.{length, getD, set, take, replicate, getD-replicate, length-append, length-set, length-take}
+use lib.Seq.{getD-set-same, getD-set-other, set-out, take-all, take-nil, take-append-le}
+use borrow.Author.Tests.{eqb-true, eqb-false, ltb-true, ltb-false}
 use Rattle.lists.specs.Lists.{pick, front, add, keep, span}
-use Rattle.lists.proofs.FrontLaws.{length-front, push-at}
+use Rattle.lists.proofs.FrontLaws.{length-front, push}
 use Rattle.walks.specs.Graph.{Arc, noArc, tailOf, headOf, arcItem}
 use Rattle.walks.specs.Flat.{arcsOf, graphOf}
 use Rattle.walks.proofs.FlatLaws.{arc-in, arcs-many}
 use Rattle.sheet.specs.declared.Header.{Header}
 use Rattle.sheet.specs.Sheet.{markOf, isMandatory, endsMandatory, allArcs, isRequired}
-use Rattle.sheet_required.specs.Held.{sheetOf, Held, Ends}
+use Rattle.sheet_required.specs.Held.{sheetOf, Held, Ends, RoomListed}
 
 -- a mark of 1 that is set at i, seen from p
 set-one : (xs : List ℕ) (i p : ℕ) → p < length xs → eqb (getD (set xs i 1) p 0) 1 ≡ (eqb i p || eqb (getD xs p 0) 1)
@@ -111,37 +111,54 @@ module _ (h : Header) (xs ms : List ℕ) where
   unfolding isRequired isMandatory markOf
   required-by w p l = rw (w .each p l)
 
--- the numbers below p that pass the test were written over the front of `old`
+-- the numbers below p that pass the test were written over the front of `old`, as far as it has room
 pub record Listing (f : ℕ → Bool) (n : ℕ) (old out : List ℕ) (count p : ℕ) : Type 0 where
   pub xs : List ℕ
   pub few : p ≤ n
   pub size : length xs ≡ count
   pub small : count ≤ p
-  pub holds : out ≡ front xs old
+  pub holds : out ≡ front (take (length old) xs) old
   pub same : keep f (span n 0) ≡ xs ++ keep f (span (n - p) p)
 
 pub listing : (f : ℕ → Bool) (n : ℕ) (old : List ℕ) → Listing f n old old 0 0
 listing f n old =
     let e : n - 0 ≡ n = omega arith in
-    record { xs = []; few = omega arith; size = refl; small = omega arith; holds = refl; same = rw e }
+    record { xs = []; few = omega arith; size = refl; small = omega arith; holds = rw (take-nil {A = ℕ} (length old)); same = rw e }
+
+room-kept : (xs old : List ℕ) → length (front (take (length old) xs) old) ≡ length old
+room-kept xs old = length-front (take (length old) xs) old (simp length-take (omega arith))
+
+-- one more is stored behind the others where there is room, and else nothing changes
+room-more : (xs old : List ℕ) (x : ℕ) → set (front (take (length old) xs) old) (length xs) x ≡ front (take (length old) (xs ++ (x ∷ []))) old
+room-more xs old x = go (ltb (length xs) (length old)) refl
+  where
+    go : (t : Bool) → ltb (length xs) (length old) ≡ t → set (front (take (length old) xs) old) (length xs) x ≡ front (take (length old) (xs ++ (x ∷ []))) old
+    go true e =
+        let l = ltb-true (length xs) (length old) e in
+        let a : take (length old) xs ≡ xs = take-all (length old) xs (omega arith) in
+        let b : take (length old) (xs ++ (x ∷ [])) ≡ xs ++ (x ∷ []) = take-all (length old) (xs ++ (x ∷ [])) (simp length-append (omega arith)) in
+        rw (a, b) (push xs old x l)
+    go false e =
+        let l = ltb-false (length xs) (length old) e in
+        rw (take-append-le (length old) xs (x ∷ []) l) (set-out _ _ _ (rw (room-kept xs old) l))
 
 module _ {f : ℕ → Bool} {n : ℕ} {old out : List ℕ} {count p : ℕ} (w : Listing f n old out count p) where
-  pub listed-size : n ≤ length old → length out ≡ length old
-  listed-size h = ap length (w .holds) ∙ length-front (w .xs) old (omega (arith, w .size, w .small, w .few))
+  pub listed-size : length out ≡ length old
+  listed-size = ap length (w .holds) ∙ room-kept (w .xs) old
 
   keep-next : p < n → {b : Bool} → f p ≡ b → keep f (span (n - p) p) ≡ add b p (keep f (span (n - (p + 1)) (p + 1)))
   unfolding keep span
   keep-next l e = let k : n - p ≡ suc (n - (p + 1)) = omega arith in rw (k, span, keep, e, add-one p)
 
-  pub list-more : n ≤ length old → p < n → f p ≡ true → Listing f n old (set out count p) (count + 1) (p + 1)
+  pub list-more : p < n → f p ≡ true → Listing f n old (set out count p) (count + 1) (p + 1)
   unfolding add
-  list-more room l e =
+  list-more l e =
       record {
         xs = w .xs ++ (p ∷ []);
         few = omega arith;
         size = simp length-append (omega (arith, w .size));
         small = omega (arith, w .small);
-        holds = push-at (w .xs) old out count p (w .holds) (w .size) (omega (arith, w .small));
+        holds = rw (w .holds, ← w .size) (room-more (w .xs) old p);
         same = w .same ∙ rw (keep-next l e) (sym (append-assoc (w .xs) (p ∷ []) _));
       }
 
@@ -157,9 +174,9 @@ module _ {f : ℕ → Bool} {n : ℕ} {old out : List ℕ} {count p : ℕ} (w : 
         same = w .same ∙ rw (keep-next l e);
       }
 
-  pub listed : n ≤ p → (count ≡ length (keep f (span n 0))) × (out ≡ front (keep f (span n 0)) old)
+  pub listed : n ≤ p → RoomListed (keep f (span n 0)) old out count
   unfolding keep span
   listed l =
       let k : n - p ≡ 0 = omega arith in
       let e : keep f (span n 0) ≡ w .xs = w .same ∙ rw k (append-nil (w .xs)) in
-      rw e (sym (w .size), w .holds)
+      rw e (record { counted = sym (w .size); written = w .holds })

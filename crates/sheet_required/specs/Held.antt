@@ -2,8 +2,9 @@
 use Prim.Native.Nat.{ℕ, _+_, _*_, _≤_, _<_}
 use mathlib.Core.Path.{_≡_}
 use mathlib.Core.List.{List}
-use lib.ListN.{length, getD}
+use lib.ListN.{length, getD, take}
 use lib.Dec.{eqb}
+use Rattle.lists.specs.Lists.{front}
 use Rattle.walks.specs.Flat.{graphOf}
 use Rattle.sheet.specs.Sheet.{Sheet, required, endsMandatory, allArcs}
 use Rattle.sheet.specs.Good.{Good}
@@ -34,3 +35,8 @@ pub record Whole (h : Header) (arcs marks : List ℕ) : Type 0 where
 pub record Ends (S : Sheet) (ends : List ℕ) : Type 0 where
   pub size : length ends ≡ 64
   pub each : (p : ℕ) → p < 64 → eqb (getD ends p 0) 1 ≡ endsMandatory S p (allArcs (S .graph))
+
+-- so many entries there are, and as many of them as the list has room for stand in front of it
+pub record RoomListed (xs old list : List ℕ) (n : ℕ) : Type 0 where
+  pub counted : n ≡ length xs
+  pub written : list ≡ front (take (length old) xs) old

@@ -2,12 +2,14 @@
 ghost use mathlib.Core.Path.{_≡_};
 ghost use mathlib.Core.Bool.{not, _&&_, _||_};
 ghost use Prim.Native.Nat.{_+_, _*_, _≤_};
-ghost use lib.ListN.{length, set};
+ghost use lib.ListN.{set};
 ghost use lib.Dec.{eqb};
-ghost use Rattle.lists.specs.Lists.{front, pick};
+ghost use Rattle.lists.specs.Lists.{pick};
 ghost use Rattle.sheet.specs.Sheet.{required};
-ghost use Rattle.sheet_required.specs.Held.{sheetOf, Held, Ends};
+ghost use Rattle.sheet_required.specs.Held.{sheetOf, Held, Ends, RoomListed};
 use sheet::Header;
+use walks::MANDATORY;
+use walks::NODES;
 
 // The node is marked, where it is one of those that `ends` has a place for.
 fn mark_end(ends: &mut [u8], node: u32)
@@ -23,18 +25,18 @@ fn mark_end(ends: &mut [u8], node: u32)
 fn mark_ends(ends: &mut [u8], mark: u8, tail: u32, head: u32)
     ensures { λ _. ⌜ now (ends .exit) ≡ pick (eqb mark 1) (set (set (now (ends .entry)) tail 1) head 1) (now (ends .entry)) ⌝ }
 {
-    if mark == 1 {
+    if mark == MANDATORY {
         mark_end(ends, tail);
         mark_end(ends, head);
     }
 }
 
 // The nodes that end a mandatory arc, marked 1.
-pub fn ends_of(header: Header, arcs: &[u32], marks: &[u8]) -> [u8; 64]
+pub fn ends_of(header: Header, arcs: &[u32], marks: &[u8]) -> [u8; NODES]
     requires { ⌜ Held header (now arcs) (now marks) ⌝ }
     ensures { λ r. ⌜ Ends (sheetOf header (now (arcs .entry)) (now (marks .entry))) r ⌝ }
 {
-    let mut ends = [0u8; 64];
+    let mut ends = [0u8; NODES];
     let mut j = header.arcs;
     while 0 < j {
         j -= 1;
@@ -58,23 +60,32 @@ fn is_required(node: usize, source: usize, target: usize, mark: u8, end: u8) -> 
     if node == target {
         return false;
     }
-    if mark == 1 {
+    if mark == MANDATORY {
         return true;
     }
     end == 1
 }
 
-// Writes the required nodes (document 01: counted stops), ascending, over the front of `nodes` and gives their count.
-pub fn required_nodes(header: Header, arcs: &[u32], marks: &[u8], nodes: &mut [usize]) -> usize
-    requires { ⌜ Held header (now arcs) (now marks) × (header .nodes ≤ 64) × (header .nodes ≤ length (now nodes)) ⌝ }
-    ensures { λ r. ⌜ (r ≡ length (required (sheetOf header (now (arcs .entry)) (now (marks .entry))))) × (now (nodes .exit) ≡ front (required (sheetOf header (now (arcs .entry)) (now (marks .entry)))) (now (nodes .entry))) ⌝ }
+// Stores the node behind the `count` that were found before it, where the list has room.
+fn note_node(list: &mut [usize], count: usize, node: usize)
+    ensures { λ _. ⌜ now (list .exit) ≡ set (now (list .entry)) count node ⌝ }
+{
+    if count < list.len() {
+        list[count] = node;
+    }
+}
+
+// Gives how many required nodes there are (document 01: counted stops) and writes as many of them, ascending, over the front of `list` as it has room for.
+pub fn required_nodes(header: Header, arcs: &[u32], marks: &[u8], list: &mut [usize]) -> usize
+    requires { ⌜ Held header (now arcs) (now marks) × (header .nodes ≤ 64) ⌝ }
+    ensures { λ r. let S = sheetOf header (now (arcs .entry)) (now (marks .entry)) in ⌜ RoomListed (required S) (now (list .entry)) (now (list .exit)) r ⌝ }
 {
     let ends = ends_of(header, arcs, marks);
     let mut count: usize = 0;
     let mut p: usize = 0;
     while p < header.nodes {
         if is_required(p, header.source, header.target, marks[p], ends[p]) {
-            nodes[count] = p;
+            note_node(list, count, p);
             count += 1;
         }
         p += 1;

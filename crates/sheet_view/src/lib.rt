@@ -5,11 +5,13 @@ ghost use lib.ListN.{length, drop};
 ghost use Rattle.sheet.specs.ArcView.{past, arcView, placeOf};
 use numbers::SectionRead;
 use sheet_reader::SheetRead;
+use walks::ARC_NUMBERS;
+use walks::ITEMS;
 
 // How many numbers stand in a sheet's header, and for each arc.
 const HEADER_NUMBERS: usize = 5;
 
-const ARC_NUMBERS: usize = 3;
+const NUMBERS_EACH: usize = 3;
 
 // The position after `count` numbers that stand from `from` on; the end of the sheet where they cannot be read.
 fn past_numbers(sheet: &[u8], from: usize, count: usize) -> usize
@@ -28,8 +30,8 @@ pub fn arc_view(sheet: &[u8], arc: u32) -> &[u8]
     ensures { λ r. ⌜ (r .ptr .0 ≡ sheet .entry .ptr .0) × (r .ptr .1 ≡ placeOf (now (sheet .entry)) arc + sheet .entry .ptr .1) ⌝ }
     ensures { λ r. ⌜ now r ≡ arcView (now (sheet .entry)) arc ⌝ }
 {
-    let mut arcs = [0u32; 1536];
-    let mut marks = [0u8; 576];
+    let mut arcs = [0u32; ARC_NUMBERS];
+    let mut marks = [0u8; ITEMS];
     let header = match sheet_reader::read(sheet, &mut arcs, &mut marks) {
         SheetRead::Got(header) => header,
         SheetRead::Refused(_) => return &sheet[0..0],
@@ -38,7 +40,7 @@ pub fn arc_view(sheet: &[u8], arc: u32) -> &[u8]
     if header.arcs <= earlier {
         return &sheet[0..0];
     }
-    let from = past_numbers(sheet, 0, HEADER_NUMBERS + ARC_NUMBERS * earlier);
-    let to = past_numbers(sheet, from, ARC_NUMBERS);
+    let from = past_numbers(sheet, 0, HEADER_NUMBERS + NUMBERS_EACH * earlier);
+    let to = past_numbers(sheet, from, NUMBERS_EACH);
     &sheet[from..to]
 }

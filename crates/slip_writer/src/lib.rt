@@ -4,7 +4,7 @@ ghost use mathlib.Core.Bool.{true};
 ghost use mathlib.Core.List.{_∷_};
 ghost use Prim.Native.Nat.{_≤_};
 ghost use lib.ListN.{length};
-ghost use Rattle.lists.specs.Lists.{front};
+ghost use Rattle.lists.specs.Lists.{front, Put};
 ghost use Rattle.varint.specs.Answer.{small};
 ghost use Rattle.sheet.specs.Slip.{slipNumbers, slipBytes};
 ghost use Rattle.slip_reader.specs.Form.{listBytes, slipFrom};
@@ -12,7 +12,7 @@ ghost use Rattle.slip_reader.specs.Form.{listBytes, slipFrom};
 // Writes the count of the goals and the goals.
 fn put_goals(out: &mut [u8], goals: &[usize]) -> usize
     requires { ⌜ (small (length (now goals) ∷ now goals) ≡ true) × (length (listBytes (now goals)) ≤ length (now out)) ⌝ }
-    ensures { λ r. ⌜ (r ≡ length (listBytes (now (goals .entry)))) × (now (out .exit) ≡ front (listBytes (now (goals .entry))) (now (out .entry))) ⌝ }
+    ensures { λ r. ⌜ Put (listBytes (now (goals .entry))) (now (out .entry)) (now (out .exit)) r ⌝ }
 {
     let at = varint::put_number(out, goals.len() as u32);
     at + numbers::put_indices(&mut out[at..], goals)
@@ -21,7 +21,7 @@ fn put_goals(out: &mut [u8], goals: &[usize]) -> usize
 // Writes the count of the reasons and the reasons.
 fn put_reasons(out: &mut [u8], reasons: &[u32]) -> usize
     requires { ⌜ (small (length (now reasons) ∷ now reasons) ≡ true) × (length (listBytes (now reasons)) ≤ length (now out)) ⌝ }
-    ensures { λ r. ⌜ (r ≡ length (listBytes (now (reasons .entry)))) × (now (out .exit) ≡ front (listBytes (now (reasons .entry))) (now (out .entry))) ⌝ }
+    ensures { λ r. ⌜ Put (listBytes (now (reasons .entry))) (now (out .entry)) (now (out .exit)) r ⌝ }
 {
     let at = varint::put_number(out, reasons.len() as u32);
     at + numbers::put_numbers(&mut out[at..], reasons)
@@ -31,8 +31,7 @@ fn put_reasons(out: &mut [u8], reasons: &[u32]) -> usize
 pub fn write_slip(slip: &mut [u8], first: u32, goals: &[usize], reasons: &[u32]) -> usize
     requires { ⌜ small (slipNumbers (slipFrom first (now goals) (now reasons))) ≡ true ⌝ }
     requires { ⌜ length (slipBytes (slipFrom first (now goals) (now reasons))) ≤ length (now slip) ⌝ }
-    ensures { λ r. ⌜ r ≡ length (slipBytes (slipFrom first (now (goals .entry)) (now (reasons .entry)))) ⌝ }
-    ensures { λ _. ⌜ now (slip .exit) ≡ front (slipBytes (slipFrom first (now (goals .entry)) (now (reasons .entry)))) (now (slip .entry)) ⌝ }
+    ensures { λ r. ⌜ Put (slipBytes (slipFrom first (now (goals .entry)) (now (reasons .entry)))) (now (slip .entry)) (now (slip .exit)) r ⌝ }
 {
     let at = varint::put_number(slip, first);
     let end = at + put_goals(&mut slip[at..], goals);

@@ -4,7 +4,7 @@ ghost use mathlib.Core.Bool.{true, _&&_};
 ghost use Prim.Native.Nat.{_≤_, _<_};
 ghost use lib.ListN.{length};
 ghost use lib.Dec.{eqb};
-ghost use Rattle.lists.specs.Lists.{front};
+ghost use Rattle.lists.specs.Lists.{front, Put};
 ghost use Rattle.varint.specs.Answer.{small};
 ghost use Rattle.slip_reader.specs.Form.{slipFrom};
 ghost use Rattle.text_answer.specs.Text.{newlyForbidden, standsText, blameText};
@@ -19,7 +19,7 @@ fn is_new(before: u8, after: u8) -> bool
 // Writes the items newly forbidden, ascending, over the front of `list` and gives their count.
 pub fn newly_forbidden(marks: &[u8], slip: &[u8], list: &mut [usize]) -> usize
     requires { ⌜ (length (now marks) < length (now slip)) × (length (now marks) ≤ length (now list)) ⌝ }
-    ensures { λ r. ⌜ (r ≡ length (newlyForbidden (now (marks .entry)) (now (slip .entry)))) × (now (list .exit) ≡ front (newlyForbidden (now (marks .entry)) (now (slip .entry))) (now (list .entry))) ⌝ }
+    ensures { λ r. ⌜ Put (newlyForbidden (now (marks .entry)) (now (slip .entry))) (now (list .entry)) (now (list .exit)) r ⌝ }
 {
     let mut count: usize = 0;
     let mut i: usize = 0;
@@ -36,7 +36,7 @@ pub fn newly_forbidden(marks: &[u8], slip: &[u8], list: &mut [usize]) -> usize
 // Writes the text of verdict 0.
 pub fn put_stands(out: &mut [u8], struck: &[usize]) -> usize
     requires { ⌜ (small (now struck) ≡ true) × (length (standsText (now struck)) ≤ length (now out)) ⌝ }
-    ensures { λ r. ⌜ (r ≡ length (standsText (now (struck .entry)))) × (now (out .exit) ≡ front (standsText (now (struck .entry))) (now (out .entry))) ⌝ }
+    ensures { λ r. ⌜ Put (standsText (now (struck .entry))) (now (out .entry)) (now (out .exit)) r ⌝ }
 {
     let verdict = [0usize; 1];
     let at = text_lines::put_line(out, b"verdict", &verdict);
@@ -46,7 +46,7 @@ pub fn put_stands(out: &mut [u8], struck: &[usize]) -> usize
 // Writes the text of a refused round.
 pub fn put_blame(out: &mut [u8], first: usize, goals: &[usize], reasons: &[usize]) -> usize
     requires { ⌜ (first < 5) × (small (now goals) ≡ true) × (small (now reasons) ≡ true) × (length (blameText (slipFrom first (now goals) (now reasons))) ≤ length (now out)) ⌝ }
-    ensures { λ r. ⌜ (r ≡ length (blameText (slipFrom first (now (goals .entry)) (now (reasons .entry))))) × (now (out .exit) ≡ front (blameText (slipFrom first (now (goals .entry)) (now (reasons .entry)))) (now (out .entry))) ⌝ }
+    ensures { λ r. ⌜ Put (blameText (slipFrom first (now (goals .entry)) (now (reasons .entry)))) (now (out .entry)) (now (out .exit)) r ⌝ }
 {
     let verdict = [first];
     let at = text_lines::put_line(out, b"verdict", &verdict);

@@ -3,7 +3,7 @@ ghost use mathlib.Core.Path.{_≡_};
 ghost use mathlib.Core.Bool.{true};
 ghost use Prim.Native.Nat.{_≤_};
 ghost use lib.ListN.{length};
-ghost use Rattle.lists.specs.Lists.{front};
+ghost use Rattle.lists.specs.Lists.{front, Put};
 ghost use Rattle.varint.specs.Answer.{small};
 ghost use Rattle.text_lines.specs.Lines.{decimal, spaced, row, line};
 
@@ -16,7 +16,7 @@ const DIGIT_ZERO: u32 = 48;
 // Writes the number in decimal and gives the count of bytes.
 fn put_decimal(out: &mut [u8], number: u32) -> usize
     requires { ⌜ length (decimal number) ≤ length (now out) ⌝ }
-    ensures { λ r. ⌜ (r ≡ length (decimal number)) × (now (out .exit) ≡ front (decimal number) (now (out .entry))) ⌝ }
+    ensures { λ r. ⌜ Put (decimal number) (now (out .entry)) (now (out .exit)) r ⌝ }
 {
     if number < 10 {
         out[0] = (DIGIT_ZERO + number) as u8;
@@ -30,7 +30,7 @@ fn put_decimal(out: &mut [u8], number: u32) -> usize
 // Writes a space and the number.
 fn put_spaced(out: &mut [u8], number: u32) -> usize
     requires { ⌜ length (spaced number) ≤ length (now out) ⌝ }
-    ensures { λ r. ⌜ (r ≡ length (spaced number)) × (now (out .exit) ≡ front (spaced number) (now (out .entry))) ⌝ }
+    ensures { λ r. ⌜ Put (spaced number) (now (out .entry)) (now (out .exit)) r ⌝ }
 {
     out[0] = SPACE;
     1 + put_decimal(&mut out[1..], number)
@@ -39,7 +39,7 @@ fn put_spaced(out: &mut [u8], number: u32) -> usize
 // Writes the numbers, each behind a space.
 fn put_row(out: &mut [u8], numbers: &[usize]) -> usize
     requires { ⌜ (small (now numbers) ≡ true) × (length (row (now numbers)) ≤ length (now out)) ⌝ }
-    ensures { λ r. ⌜ (r ≡ length (row (now (numbers .entry)))) × (now (out .exit) ≡ front (row (now (numbers .entry))) (now (out .entry))) ⌝ }
+    ensures { λ r. ⌜ Put (row (now (numbers .entry))) (now (out .entry)) (now (out .exit)) r ⌝ }
 {
     let mut at: usize = 0;
     let mut j: usize = 0;
@@ -53,7 +53,7 @@ fn put_row(out: &mut [u8], numbers: &[usize]) -> usize
 // Writes a word.
 fn put_word(out: &mut [u8], word: &[u8]) -> usize
     requires { ⌜ length (now word) ≤ length (now out) ⌝ }
-    ensures { λ r. ⌜ (r ≡ length (now (word .entry))) × (now (out .exit) ≡ front (now (word .entry)) (now (out .entry))) ⌝ }
+    ensures { λ r. ⌜ Put (now (word .entry)) (now (out .entry)) (now (out .exit)) r ⌝ }
 {
     let mut i: usize = 0;
     while i < word.len() {
@@ -66,7 +66,7 @@ fn put_word(out: &mut [u8], word: &[u8]) -> usize
 // Writes a line, the word and the numbers behind it, over the front of `out` and gives its length.
 pub fn put_line(out: &mut [u8], word: &[u8], numbers: &[usize]) -> usize
     requires { ⌜ (small (now numbers) ≡ true) × (length (line (now word) (now numbers)) ≤ length (now out)) ⌝ }
-    ensures { λ r. ⌜ (r ≡ length (line (now (word .entry)) (now (numbers .entry)))) × (now (out .exit) ≡ front (line (now (word .entry)) (now (numbers .entry))) (now (out .entry))) ⌝ }
+    ensures { λ r. ⌜ Put (line (now (word .entry)) (now (numbers .entry))) (now (out .entry)) (now (out .exit)) r ⌝ }
 {
     let at = put_word(out, word);
     let end = at + put_row(&mut out[at..], numbers);

@@ -3,25 +3,19 @@ ghost use mathlib.Core.Path.{_≡_};
 ghost use mathlib.Core.List.{[]};
 ghost use Prim.Native.Nat.{_≤_, _<_};
 ghost use lib.ListN.{length, take};
-ghost use Rattle.lists.specs.Lists.{front};
+ghost use Rattle.lists.specs.Lists.{front, Put};
 ghost use Rattle.pass_rules.specs.Pass.{finished, outcome, passOn, verdictIn};
 ghost use Rattle.text_answer.specs.Text.{slipText, text, answer as answerTo};
 use sheet_reader::SheetRead;
 use slip_reader::SlipRead;
-
-// The most numbers of a sheet's arcs, the most items and the most goals.
-const ARC_NUMBERS: usize = 1536;
-
-const ITEMS: usize = 576;
-
-const GOALS: usize = 8;
-
-const SLIP_BYTES: usize = 1200;
+use walks::ARC_NUMBERS;
+use walks::GOALS;
+use walks::ITEMS;
 
 // Writes the text of a slip of verdict 0, with the marks read from the sheet.
 fn put_stands_text(sheet: &[u8], slip: &[u8], out: &mut [u8]) -> usize
     requires { ⌜ (passOn (now sheet) ≡ finished (now slip)) × (verdictIn (now slip) ≡ 0) × (8192 ≤ length (now out)) ⌝ }
-    ensures { λ r. ⌜ (r ≡ length (slipText (now (sheet .entry)) (now (slip .entry)))) × (now (out .exit) ≡ front (slipText (now (sheet .entry)) (now (slip .entry))) (now (out .entry))) ⌝ }
+    ensures { λ r. ⌜ Put (slipText (now (sheet .entry)) (now (slip .entry))) (now (out .entry)) (now (out .exit)) r ⌝ }
 {
     let mut arcs = [0u32; ARC_NUMBERS];
     let mut marks = [0u8; ITEMS];
@@ -38,7 +32,7 @@ fn put_stands_text(sheet: &[u8], slip: &[u8], out: &mut [u8]) -> usize
 // Writes the text of a slip that blames closures.
 fn put_blame_text(sheet: &[u8], slip: &[u8], out: &mut [u8]) -> usize
     requires { ⌜ (passOn (now sheet) ≡ finished (now slip)) × (0 < verdictIn (now slip)) × (8192 ≤ length (now out)) ⌝ }
-    ensures { λ r. ⌜ (r ≡ length (slipText (now (sheet .entry)) (now (slip .entry)))) × (now (out .exit) ≡ front (slipText (now (sheet .entry)) (now (slip .entry))) (now (out .entry))) ⌝ }
+    ensures { λ r. ⌜ Put (slipText (now (sheet .entry)) (now (slip .entry))) (now (out .entry)) (now (out .exit)) r ⌝ }
 {
     let form = match slip_reader::judge_slip(slip) {
         SlipRead::Got(form) => form,
@@ -61,7 +55,7 @@ fn put_blame_text(sheet: &[u8], slip: &[u8], out: &mut [u8]) -> usize
 // Writes the text of a finished pass by its slip.
 fn put_slip_text(sheet: &[u8], slip: &[u8], out: &mut [u8]) -> usize
     requires { ⌜ (passOn (now sheet) ≡ finished (now slip)) × (8192 ≤ length (now out)) ⌝ }
-    ensures { λ r. ⌜ (r ≡ length (slipText (now (sheet .entry)) (now (slip .entry)))) × (now (out .exit) ≡ front (slipText (now (sheet .entry)) (now (slip .entry))) (now (out .entry))) ⌝ }
+    ensures { λ r. ⌜ Put (slipText (now (sheet .entry)) (now (slip .entry))) (now (out .entry)) (now (out .exit)) r ⌝ }
 {
     if slip[0] == 0 {
         return put_stands_text(sheet, slip, out);
@@ -78,7 +72,7 @@ pub fn report(sheet: &[u8], work: &mut [u32], out: &mut [u8]) -> usize
     ensures { λ _. ⌜ now (work .exit) ≡ outcome (answerTo (now (sheet .entry)) (now (work .entry))) (now (work .entry)) [] .work ⌝ }
     ensures { λ r. ⌜ (r ≤ length (now (out .exit))) × (r ≡ length (take r (now (out .exit)))) ⌝ }
 {
-    let mut slip = [0u8; SLIP_BYTES];
+    let mut slip = [0u8; pass::SLIP_BYTES];
     let answer = pass::pass(sheet, work, &mut slip);
     if 0 < answer.number {
         let number = [answer.number as usize];

@@ -2,7 +2,7 @@
 ghost use mathlib.Core.Path.{_≡_};
 ghost use Prim.Native.Nat.{_+_, _≤_, _<_};
 ghost use lib.ListN.{length, drop};
-ghost use Rattle.lists.specs.Lists.{front};
+ghost use Rattle.lists.specs.Lists.{front, Put};
 ghost use Rattle.varint.specs.Varint.{readNumber, writeNumber};
 ghost use Rattle.varint.specs.Answer.{readOf, endOf};
 
@@ -53,7 +53,7 @@ pub fn number_at(bytes: &[u8], at: usize) -> Number
 // Writes x, in its shortest form, over the front of `out` and gives the count of bytes.
 pub fn put_number(out: &mut [u8], x: u32) -> usize
     requires { ⌜ (x < 268435456) × (length (writeNumber x) ≤ length (now out)) ⌝ }
-    ensures { λ r. ⌜ (r ≡ length (writeNumber x)) × (now (out .exit) ≡ front (writeNumber x) (now (out .entry))) ⌝ }
+    ensures { λ r. ⌜ Put (writeNumber x) (now (out .entry)) (now (out .exit)) r ⌝ }
 {
     let mut rest = x;
     let mut i: usize = 0;

@@ -1,2 +1,3 @@
 pub mod ZeroLaws
 pub mod BytesLaws
+pub mod LeftLaws

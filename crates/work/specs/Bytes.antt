@@ -2,7 +2,7 @@
 use Prim.Native.Nat.{ℕ}
 use mathlib.Core.List.{List, _++_}
 use lib.ListN.{drop}
-use lib.Dec.{leb, eqb}
+use lib.Dec.{leb}
 use Rattle.lists.specs.Lists.{pick}
 use Rattle.sheet.specs.Lent.{zeros}
 
@@ -17,7 +17,3 @@ zeroedBytes work = zeros workBytes ++ drop workBytes work
 -- refusals 1 to 13 leave every byte as found, later ones the first 65,536 zero
 unfoldable pub bytesAfter : ℕ → List ℕ → List ℕ
 bytesAfter e work = pick (leb e 13) work (zeroedBytes work)
-
--- what a call with this number leaves, 0 where it finished
-unfoldable pub leftBytes : ℕ → List ℕ → List ℕ
-leftBytes number work = pick (eqb number 0) (zeroedBytes work) (bytesAfter number work)

@@ -3,9 +3,11 @@ ghost use mathlib.Core.Path.{_≡_};
 ghost use Prim.Native.Nat.{_≤_};
 ghost use lib.ListN.{length};
 ghost use Rattle.sheet.specs.Lent.{workNumbers, zeroed};
-ghost use Rattle.work.specs.Bytes.{workBytes, zeroedBytes, leftBytes};
+ghost use Rattle.work.specs.Bytes.{workBytes, zeroedBytes};
+ghost use Rattle.work.specs.Left.{isZeroed, left};
 
-const WORK_NUMBERS: usize = 16384;
+// What an operation asks for.
+pub const WORK_NUMBERS: usize = 16384;
 
 // Four bytes for each number.
 pub const WORK_BYTES: usize = 65536;
@@ -14,7 +16,7 @@ pub const WORK_BYTES: usize = 65536;
 const LAST_UNTOUCHED: u32 = 13;
 
 // Leaves the first 16,384 work numbers zero and the rest as found.
-pub fn zero(work: &mut [u32])
+fn zero(work: &mut [u32])
     requires { ⌜ workNumbers ≤ length (now work) ⌝ }
     ensures { λ _. ⌜ now (work .exit) ≡ zeroed (now (work .entry)) ⌝ }
 {
@@ -37,16 +39,32 @@ fn zero_bytes(work: &mut [u8])
     }
 }
 
-// Leaves the work bytes as a call with this refusal number does, 0 where it finished.
-pub fn leave(work: &mut [u8], number: u32)
-    requires { ⌜ workBytes ≤ length (now work) ⌝ }
-    ensures { λ _. ⌜ now (work .exit) ≡ leftBytes number (now (work .entry)) ⌝ }
+// Whether a call with this refusal number, 0 where it finished, leaves the work zero.
+fn is_zeroed(number: u32) -> bool
+    ensures { λ r. ⌜ r ≡ isZeroed number ⌝ }
 {
     if number == 0 {
-        zero_bytes(work);
-        return;
+        return true;
     }
-    if number > LAST_UNTOUCHED {
+    number > LAST_UNTOUCHED
+}
+
+// Leaves the work as a call with this refusal number does.
+pub fn leave(work: &mut [u32], number: u32)
+    requires { ⌜ workNumbers ≤ length (now work) ⌝ }
+    ensures { λ _. ⌜ now (work .exit) ≡ left zeroed number (now (work .entry)) ⌝ }
+{
+    if is_zeroed(number) {
+        zero(work);
+    }
+}
+
+// The same for the work as bytes.
+pub fn leave_bytes(work: &mut [u8], number: u32)
+    requires { ⌜ workBytes ≤ length (now work) ⌝ }
+    ensures { λ _. ⌜ now (work .exit) ≡ left zeroedBytes number (now (work .entry)) ⌝ }
+{
+    if is_zeroed(number) {
         zero_bytes(work);
     }
 }

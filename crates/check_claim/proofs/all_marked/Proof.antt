@@ -7,7 +7,7 @@ use lib.Dec.{eqb}
 use borrow.Author.Needs.{needs}
 use borrow.Author.Tests.{eq-eqb, ne-eqb}
 use Rattle.lists.specs.Lists.{every}
-use Rattle.check_claim.proofs.ListLaws.{every-more, every-fails, every-done}
+use Rattle.lists.proofs.TestedLaws.{every-more, every-fails, every-done}
 use Rattle.check_claim.proofs.all_marked.Statement.{statement}
 use Rattle.check_claim.proofs.all_marked.Tie as tie
 

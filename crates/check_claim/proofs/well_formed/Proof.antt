@@ -2,7 +2,7 @@
 use mathlib.Core.Path.{refl}
 use mathlib.Core.Bool.{true, false}
 use borrow.Author.Tests.{eq-eqb, ne-eqb}
-use Rattle.check_claim.proofs.ListLaws.{passed, failed}
+use Rattle.lists.proofs.TestedLaws.{passed, failed}
 use Rattle.check_claim.proofs.FormLaws.{formed-is, three-nodes, other-items}
 use borrow.Author.Needs.{needs}
 use Rattle.check_claim.proofs.well_formed.Statement.{statement}

@@ -1,4 +1,4 @@
--- `table::held_goals` meets its contract: each one in a set's mark chooses a goal. Assumes nothing.
+-- `goal_table::held_goals` meets its contract: each one in a set's mark chooses a goal. Assumes nothing.
 use mathlib.Core.Path.{sym}
 use Rattle.goal_table.proofs.SetLaws.{chosen-count}
 use Rattle.goal_table.proofs.held_goals.Statement.{statement}

@@ -1,4 +1,4 @@
--- `table::put` meets its contract: the set without goal `i` has a smaller number, so its entries are filled already; where it holds no goal, the source's row
+-- `goal_table::put` meets its contract: the set without goal `i` has a smaller number, so its entries are filled already; where it holds no goal, the source's row
 -- has the way to the entry. Assumes nothing.
 use Prim.Native.Nat.{ℕ, _+_, _^_, _<_}
 use mathlib.Core.Path.{_≡_, sym, _∙_}
@@ -51,9 +51,6 @@ slice-read-at c = omega (arith, small (c .before .before .before))
 cast-at : tie.Need-cast-at
 cast-at c = omega (arith, entered (c .before .before .before))
 
-held-goals-requires : tie.Need-held-goals-requires
-held-goals-requires c κs = search needs
-
 mul-way : tie.Need-mul-way
 mul-way c = omega (arith, entered (c .before .before .before .before .before))
 
@@ -79,15 +76,6 @@ mul-sum c = omega (arith, small (c .before .before .before .before .before))
 slice-read-sum : tie.Need-slice-read-sum
 slice-read-sum c = omega (arith, small (c .before .before .before .before .before .before))
 
-sum-requires : tie.Need-sum-requires
-sum-requires c κs = search needs
-
-mul-work : tie.Need-mul-work
-mul-work c = search needs
-
-add-work : tie.Need-add-work
-add-work c = search needs
-
 add-work-2 : tie.Need-add-work-2
 add-work-2 c = omega (arith, small (c .before .before .before .before .before .before .before))
 
@@ -96,9 +84,6 @@ mul-work-2 c = omega (arith, small (c .before .before .before .before .before .b
 
 slice-write-work : tie.Need-slice-write-work
 slice-write-work c = omega (arith, small (c .before .before .before .before .before .before .before))
-
-same-length : tie.Need-same-length
-same-length c = search needs
 
 returns : tie.Need-returns
 returns c =
@@ -119,18 +104,18 @@ put-spec =
     mul-at
     slice-read-at
     cast-at
-    held-goals-requires
+    (λ c κs. search needs)
     mul-way
     slice-read-way
     reach-requires
     add-sum
     mul-sum
     slice-read-sum
-    sum-requires
-    mul-work
-    add-work
+    (λ c κs. search needs)
+    (λ c. search needs)
+    (λ c. search needs)
     add-work-2
     mul-work-2
     slice-write-work
-    same-length
+    (λ c. search needs)
     returns)

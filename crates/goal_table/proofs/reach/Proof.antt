@@ -1,4 +1,4 @@
--- `table::reach` meets its contract. The loop's invariant: `rest` is the set without its goals below some k, and `r` stands for the least over those as the last
+-- `goal_table::reach` meets its contract. The loop's invariant: `rest` is the set without its goals below some k, and `r` stands for the least over those as the last
 -- one; the law of the last goal does the rest. Assumes nothing.
 use mathlib.Core.Path.{_≡_}
 use mathlib.Core.List.{List}
@@ -25,13 +25,10 @@ Inv-loop work set v cap r₀ rest₀ r rest =
 abbrev μ-loop : tie.MeasureT-loop
 μ-loop work set v cap r₀ rest₀ r rest = rest
 
-cast-r : tie.Need-cast-r Inv-loop μ-loop
-cast-r c = omega arith
-
 loop-holds : tie.Need-loop-holds Inv-loop μ-loop
 loop-holds c =
     let s = c .before in
-    (0, rest-begun (s .args .set), λ N a goals K. any-begun N (s .args .cap) a (s .args .v) (s .args .set) goals (s .pre .4))
+    (0, rest-begun (s .args .set), λ N a goals K. any-begun N (s .args .cap) a (s .args .node) (s .args .set) goals (s .pre .4))
 
 -- the goal that a turn looks at
 next : (c : tie.In-loop Inv-loop μ-loop) → Next (c .before .before .before .args .set) (c .before .loop .inv .0) (trailingZeros 32 (c .before .loop .rest))
@@ -46,9 +43,6 @@ cast-i c = omega (arith, next-small c)
 better-requires : tie.Need-better-requires Inv-loop μ-loop
 better-requires c κs = let s = c .before .before .before in (s .pre .0, s .pre .2, next-small c, s .pre .3)
 
-sub-rest : tie.Need-sub-rest Inv-loop μ-loop
-sub-rest c = omega arith
-
 loop-less : tie.Need-loop-less Inv-loop μ-loop
 loop-less c = let l = c .before .before .loop in omega (arith, and-le-r (l .rest) (l .rest - 1))
 
@@ -58,7 +52,7 @@ loop-again c =
     let l = c .before .before .loop in (
       trailingZeros 32 (l .rest) + 1,
       rest-more (l .inv .1) (s .pre .2) (omega arith),
-      λ N a goals K. reach-more K (l .r) (c .better .result) (next (c .before)) (s .pre .4) (l .inv .2 N a goals K) (c .better .ensures),
+      λ N a goals K. reach-more K (l .best) (c .better .result) (next (c .before)) (s .pre .4) (l .inv .2 N a goals K) (c .better .ensures),
     )
 
 capped-requires : tie.Need-capped-requires Inv-loop μ-loop
@@ -68,7 +62,7 @@ returns : tie.Need-returns Inv-loop μ-loop
 returns c N a goals K =
     let s = c .before .before .before .before in
     let l = c .before .before .loop in
-    reach-done K (l .r) (c .capped .result) (l .inv .1) (c .before .loop-test .left) (s .pre .1) (l .inv .2 N a goals K) (c .capped .ensures)
+    reach-done K (l .best) (c .capped .result) (l .inv .1) (c .before .loop-test .left) (s .pre .1) (l .inv .2 N a goals K) (c .capped .ensures)
 
 pub reach-spec : {M : Type 1} → statement M
 reach-spec =
@@ -76,11 +70,11 @@ reach-spec =
     (tie.spec
     Inv-loop
     μ-loop
-    cast-r
+    (λ c. omega arith)
     loop-holds
     cast-i
     better-requires
-    sub-rest
+    (λ c. omega arith)
     loop-less
     loop-again
     capped-requires

@@ -13,32 +13,17 @@ use borrow.Author.Needs.{needs}
 use Rattle.goals.proofs.entry.Statement.{statement}
 use Rattle.goals.proofs.entry.Tie as tie
 
-cast-result : tie.Need-cast-result
-cast-result c = search needs
-
 returns : tie.Need-returns
 returns c =
     let s = c .before in
-    (sym (entry-node (graphOf (s .args .nodes) (now (s .args .arcs))) (s .args .g) (c .if1 .taken)), c .if1 .taken)
-
-mul-result : tie.Need-mul-result
-mul-result c = search needs
-
-add-result : tie.Need-add-result
-add-result c = search needs
-
-mul-result-2 : tie.Need-mul-result-2
-mul-result-2 c = search needs
-
-shared-slice-read-result : tie.Need-shared-slice-read-result
-shared-slice-read-result c = search needs
+    (sym (entry-node (graphOf (s .args .nodes) (now (s .args .arcs))) (s .args .goal) (c .if1 .taken)), c .if1 .taken)
 
 returns-2 : tie.Need-returns-2
 returns-2 c =
     let s = c .before .before in
-    let i = s .args .g - s .args .nodes in
+    let i = s .args .goal - s .args .nodes in
     let e : i * 3 + 0 ≡ i * 3 = omega arith in (
-      ap (λ (k : ℕ). getD (now (s .args .arcs)) k 0) e ∙ entry-at (netOf (s .args .nodes) (now (s .args .arcs)) []) (s .args .g) (c .before .if1 .left) (s .pre .2),
+      ap (λ (k : ℕ). getD (now (s .args .arcs)) k 0) e ∙ entry-at (netOf (s .args .nodes) (now (s .args .arcs)) []) (s .args .goal) (c .before .if1 .left) (s .pre .2),
       rw e (s .pre .0 i (omega arith) .0),
     )
 
@@ -46,10 +31,10 @@ pub entry-spec : {M : Type 1} → statement M
 entry-spec =
     tie.close
     (tie.spec
-    cast-result
+    (λ c. search needs)
     returns
-    mul-result
-    add-result
-    mul-result-2
-    shared-slice-read-result
+    (λ c. search needs)
+    (λ c. search needs)
+    (λ c. search needs)
+    (λ c. search needs)
     returns-2)

@@ -15,36 +15,24 @@ use Rattle.goals.proofs.exit.Tie as tie
 returns : tie.Need-returns
 returns c =
     let s = c .before in
-    (sym (exit-node (graphOf (s .args .nodes) (now (s .args .arcs))) (s .args .g) (c .if1 .taken)), c .if1 .taken)
-
-mul-result : tie.Need-mul-result
-mul-result c = search needs
-
-add-result : tie.Need-add-result
-add-result c = search needs
-
-mul-result-2 : tie.Need-mul-result-2
-mul-result-2 c = search needs
-
-shared-slice-read-result : tie.Need-shared-slice-read-result
-shared-slice-read-result c = search needs
+    (sym (exit-node (graphOf (s .args .nodes) (now (s .args .arcs))) (s .args .goal) (c .if1 .taken)), c .if1 .taken)
 
 cast-result : tie.Need-cast-result
-cast-result c = omega (arith, c .shared-slice-known .given ((c .before .before .args .g - c .before .before .args .nodes) * 3 + 1))
+cast-result c = omega (arith, c .shared-slice-known .given ((c .before .before .args .goal - c .before .before .args .nodes) * 3 + 1))
 
 returns-2 : tie.Need-returns-2
 returns-2 c =
     let s = c .before .before in
-    (exit-at (netOf (s .args .nodes) (now (s .args .arcs)) []) (s .args .g) (c .before .if1 .left) (s .pre .1), s .pre .0 (s .args .g - s .args .nodes) (omega arith) .1)
+    (exit-at (netOf (s .args .nodes) (now (s .args .arcs)) []) (s .args .goal) (c .before .if1 .left) (s .pre .1), s .pre .0 (s .args .goal - s .args .nodes) (omega arith) .1)
 
 pub exit-spec : {M : Type 1} → statement M
 exit-spec =
     tie.close
     (tie.spec
     returns
-    mul-result
-    add-result
-    mul-result-2
-    shared-slice-read-result
+    (λ c. search needs)
+    (λ c. search needs)
+    (λ c. search needs)
+    (λ c. search needs)
     cast-result
     returns-2)

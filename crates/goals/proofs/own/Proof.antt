@@ -14,51 +14,36 @@ returns : tie.Need-returns
 returns c =
     let s = c .before in
     let N = netOf (s .args .nodes) (now (s .args .arcs)) (now (s .args .marks)) in
-    is-held (low (omega arith) (own-node (graph N) (closed N) (s .args .g) (c .if1 .taken)))
-
-shared-slice-read-if2 : tie.Need-shared-slice-read-if2
-shared-slice-read-if2 c = search needs
+    is-held (low (omega arith) (own-node (graph N) (closed N) (s .args .goal) (c .if1 .taken)))
 
 returns-2 : tie.Need-returns-2
 returns-2 c =
     let s = c .before .before .before in
     let N = netOf (s .args .nodes) (now (s .args .arcs)) (now (s .args .marks)) in
-    is-held (high (above-none (s .args .cap) (own-shut-at N (s .args .g) (c .before .before .if1 .left) (s .pre .1) (eq-eqb _ _ (c .if2 .taken)))))
-
-mul-weight : tie.Need-mul-weight
-mul-weight c = search needs
-
-add-weight : tie.Need-add-weight
-add-weight c = search needs
-
-mul-weight-2 : tie.Need-mul-weight-2
-mul-weight-2 c = search needs
-
-shared-slice-read-weight : tie.Need-shared-slice-read-weight
-shared-slice-read-weight c = search needs
+    is-held (high (above-none (s .args .cap) (own-shut-at N (s .args .goal) (c .before .before .if1 .left) (s .pre .1) (eq-eqb _ _ (c .if2 .taken)))))
 
 returns-3 : tie.Need-returns-3
 returns-3 c =
     let s = c .before .before .before .before .before in
     let N = netOf (s .args .nodes) (now (s .args .arcs)) (now (s .args .marks)) in
-    is-held (high (rw (own-at N (s .args .g) (c .before .before .before .before .if1 .left) (s .pre .1) (ne-eqb _ _ (c .before .before .if2 .left))) (omega arith)))
+    is-held (high (rw (own-at N (s .args .goal) (c .before .before .before .before .if1 .left) (s .pre .1) (ne-eqb _ _ (c .before .before .if2 .left))) (omega arith)))
 
 returns-4 : tie.Need-returns-4
 returns-4 c =
     let s = c .before .before .before .before .before in
     let N = netOf (s .args .nodes) (now (s .args .arcs)) (now (s .args .marks)) in
-    is-held (low (omega arith) (own-at N (s .args .g) (c .before .before .before .before .if1 .left) (s .pre .1) (ne-eqb _ _ (c .before .before .if2 .left))))
+    is-held (low (omega arith) (own-at N (s .args .goal) (c .before .before .before .before .if1 .left) (s .pre .1) (ne-eqb _ _ (c .before .before .if2 .left))))
 
 pub own-spec : {M : Type 1} → statement M
 own-spec =
     tie.close
     (tie.spec
     returns
-    shared-slice-read-if2
+    (λ c. search needs)
     returns-2
-    mul-weight
-    add-weight
-    mul-weight-2
-    shared-slice-read-weight
+    (λ c. search needs)
+    (λ c. search needs)
+    (λ c. search needs)
+    (λ c. search needs)
     returns-3
     returns-4)

@@ -15,13 +15,10 @@ returns-2 c p q e f =
     let s = c .before .before in
     is-held (sum-both (s .pre) (c .before .if1 .left) (omega arith) (holds (s .args .cap) p e) (holds (s .args .cap) q f))
 
-add-result : tie.Need-add-result
-add-result c = search needs
-
 returns-3 : tie.Need-returns-3
 returns-3 c p q e f =
     let s = c .before .before in
     is-held (sum-low (s .pre) (omega arith) (holds (s .args .cap) p e) (holds (s .args .cap) q f))
 
 pub sum-spec : {M : Type 1} → statement M
-sum-spec = tie.close (tie.spec returns returns-2 add-result returns-3)
+sum-spec = tie.close (tie.spec returns returns-2 (λ c. search needs) returns-3)

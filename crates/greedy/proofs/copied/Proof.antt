@@ -16,18 +16,6 @@ abbrev μ-loop : tie.MeasureT-loop
 loop-holds : tie.Need-loop-holds Inv-loop μ-loop
 loop-holds c = (search needs, search needs, copied-none _ 576)
 
-shared-slice-read-r : tie.Need-shared-slice-read-r Inv-loop μ-loop
-shared-slice-read-r c = search needs
-
-array-write-r : tie.Need-array-write-r Inv-loop μ-loop
-array-write-r c = search needs
-
-add-i : tie.Need-add-i Inv-loop μ-loop
-add-i c = search needs
-
-loop-less : tie.Need-loop-less Inv-loop μ-loop
-loop-less c = search needs
-
 loop-again : tie.Need-loop-again Inv-loop μ-loop
 loop-again c = (search needs, search needs, copied-more _ _ _ (search needs) (c .before .before .loop .inv .2))
 
@@ -41,9 +29,9 @@ copied-spec =
     Inv-loop
     μ-loop
     loop-holds
-    shared-slice-read-r
-    array-write-r
-    add-i
-    loop-less
+    (λ c. search needs)
+    (λ c. search needs)
+    (λ c. search needs)
+    (λ c. search needs)
     loop-again
     returns)

@@ -5,21 +5,6 @@ use borrow.Author.Needs.{needs}
 use Rattle.greedy.proofs.put_down.Statement.{statement}
 use Rattle.greedy.proofs.put_down.Tie as tie
 
-cast-list : tie.Need-cast-list
-cast-list c = search needs
-
-mul-list : tie.Need-mul-list
-mul-list c = search needs
-
-slice-write-list : tie.Need-slice-write-list
-slice-write-list c = search needs
-
-add-result : tie.Need-add-result
-add-result c = search needs
-
-same-length : tie.Need-same-length
-same-length c = search needs
-
 returns : tie.Need-returns
 returns c = record { there = λ _. (refl, refl); away = λ q. absurd (true≢false (sym (c .if1 .taken) ∙ q)) }
 
@@ -29,4 +14,4 @@ returns-2 c = record { there = λ q. absurd (false≢true (sym (c .if1 .left) �
 pub put-down-spec : {M : Type 1} → statement M
 put-down-spec =
     tie.close
-    (tie.spec cast-list mul-list slice-write-list add-result same-length returns returns-2)
+    (tie.spec (λ c. search needs) (λ c. search needs) (λ c. search needs) (λ c. search needs) (λ c. search needs) returns returns-2)

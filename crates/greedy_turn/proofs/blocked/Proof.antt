@@ -1,100 +1,89 @@
--- `turns::blocked` meets its contract: the two ways to the answer are those of TurnLaws: no entry that matters is another, or the table is asked. Assumes nothing.
-use Prim.Native.Nat.{_+_, _*_}
-use mathlib.Core.Path.{_∙_}
+-- `greedy_turn::blocked` meets its contract: the two ways to the answer are those of TurnLaws: no entry that matters is another, or the table is asked.
+-- Assumes nothing.
+use Prim.Native.Nat.{_+_, _<_}
+use mathlib.Core.Path.{sym, _∙_}
 use native.Mathlib.Omega.{arith}
 use borrow.Author.Needs.{needs}
-use lib.ListN.{take}
+use lib.ListN.{length}
+use lib.Seq.{length-take-le, getD-take}
 use Rattle.row_links.proofs.LinkLaws.{linked-shaped}
 use Rattle.greedy_turn.proofs.TurnLaws.{set-proper, set-goals, set-fit, opening, judged-unmoved, judged-asked}
 use Rattle.greedy_turn.proofs.blocked.Statement.{statement}
 use Rattle.greedy_turn.proofs.blocked.Tie as tie
 
-shared-slice-read-moved : tie.Need-shared-slice-read-moved
-shared-slice-read-moved c = search needs
+shared-slice-read-goals : tie.Need-shared-slice-read-goals
+shared-slice-read-goals c =
+    let s = c .before .before .before .before .before .before in
+    let h : 0 < length (s .args .places .now) = omega (arith, s .pre .0 .counted, length-take-le (s .args .turn .rows) (s .args .places .now) (s .pre .2)) in
+    search needs
+
+slice-aggregate-open-item : tie.Need-slice-aggregate-open-item
+slice-aggregate-open-item c = let s = c .before .before .before .before .before .before .before in sym (length-take-le (s .args .turn .rows) (s .args .places .now) (s .pre .2))
 
 open-item-requires : tie.Need-open-item-requires
 open-item-requires c κs =
     let s = c .before .before .before .before .before .before .before .before in
-    let p = set-proper (s .pre .0 .0) (s .args .marks .now) (s .pre .1 .0 .0) in (
-      (p, s .pre .1 .0 .1, s .pre .0 .0 .small),
-      (
-        linked-shaped p (s .pre .0 .1),
-        set-fit (s .pre .0 .0) (s .args .marks .now) (s .args .work .now) (s .pre .1 .0 .0) (omega (arith, s .pre .1 .0 .2)),
-        omega (arith, s .pre .0 .0 .counted, s .pre .0 .0 .eight),
-        s .pre .1 .0 .2,
-      ),
+    let S = s .pre .0 in
+    let I = s .pre .1 in
+    let p = set-proper S (s .args .marks .now) (I .marked) in (
+      (p, I .below, S .small),
+      (linked-shaped p (I .links), set-fit S (s .args .marks .now) (s .args .work .now) (I .marked) (omega (arith, I .long)), omega (arith, S .counted, S .eight), I .long),
+    )
+
+may-fit-requires : tie.Need-may-fit-requires
+may-fit-requires c κs =
+    let s = c .before .before .before .before .before .before .before .before .before .before .before .before .before in
+    let R = length-take-le (s .args .turn .rows) (s .args .places .now) (s .pre .2) in
+    let t = c .before .before .before .before .open-item in
+    let S = s .pre .0 in
+    let I = s .pre .1 in (
+      (t .kept .1 .1 .1 .1 .1 .0 ∙ I .long, omega (arith, S .counted, S .eight, R), omega (arith, S .target, S .few)),
+      (S .eight, λ i h. omega (arith, I .entered i h, t .ensures .saves .beside (576 + i) (omega (arith, S .counted, S .eight)) (omega (arith, S .eight)))),
     )
 
 stays-open-requires : tie.Need-stays-open-requires
 stays-open-requires c κs =
-    let s = c .before .before .before .before .before .before .before .before .before .before .before .before .before in (
-      (set-proper (s .pre .0 .0) (s .args .marks .now) (s .pre .1 .0 .0), set-goals (s .pre .0 .0) (s .args .marks .now)),
-      (c .before .before .before .before .open-item .kept .1 .1 .1 .1 .1 .0 ∙ s .pre .1 .0 .2, s .pre .0 .0 .target, s .pre .0 .0 .small, omega (arith, s .pre .0 .0 .counted, s .pre .0 .0 .eight)),
+    let s = c .before .before .before .before .before .before .before .before .before .before .before .before .before .before .before .before in
+    let R = length-take-le (s .args .turn .rows) (s .args .places .now) (s .pre .2) in
+    let S = s .pre .0 in
+    let I = s .pre .1 in (
+      (set-proper S (s .args .marks .now) (I .marked), set-goals S (s .args .marks .now)),
+      (c .before .before .before .before .before .before .before .open-item .kept .1 .1 .1 .1 .1 .0 ∙ I .long, S .target, S .small, omega (arith, S .counted, S .eight, R)),
     )
-
-same-length : tie.Need-same-length
-same-length c = search needs
 
 returns : tie.Need-returns
 returns c old e W B =
-    let s = c .before .before .before .before .before .before .before .before .before .before .before .before .before .before .before .before in
-    let a = s .args in
-    let O = opening (s .pre .0 .0) old (a .o .item) (a .marks .now) (take (a .o .count * 3) (a .packed .now)) e (s .pre .1 .0 .0) (s .pre .1 .0 .1) (s .pre .0 .1 .arcs) in
+    let s = c .before .before .before .before .before .before .before .before .before .before .before .before .before .before .before .before .before .before .before in
+    let S = s .pre .0 in
+    let I = s .pre .1 in
+    let R = length-take-le (s .args .turn .rows) (s .args .places .now) (s .pre .2) in
     let j = c .before .before .stays-open in
-    judged-asked (s .pre .0 .0) O W (c .before .before .before .before .before .before .before .open-item .ensures) (j .last .1 .1 .1 .1 .1 .0) (j .result) (j .ensures .0) (j .ensures .1 .0) (j .ensures .1 .1)
-
-moved-requires : tie.Need-moved-requires
-moved-requires c κs =
-    let s = c .before .before .before .before .before .before .before .before .before .before .before .before .before in
-    let t = c .before .before .before .before .open-item in
-    let S = s .pre .0 .0 in (
-      t .kept .1 .1 .1 .1 .1 .0 ∙ s .pre .1 .0 .2,
-      omega (arith, S .counted, S .eight),
-      S .eight,
-      omega (arith, S .target, S .few),
-      λ i h. omega (arith, s .pre .1 .0 .3 i h, t .ensures .saves .beside (576 + i) (omega (arith, S .counted, S .eight)) (omega (arith, S .eight))),
-    )
-
-stays-open-requires-2 : tie.Need-stays-open-requires-2
-stays-open-requires-2 c κs =
-    let s = c .before .before .before .before .before .before .before .before .before .before .before .before .before .before .before .before in (
-      (set-proper (s .pre .0 .0) (s .args .marks .now) (s .pre .1 .0 .0), set-goals (s .pre .0 .0) (s .args .marks .now)),
-      (c .before .before .before .before .before .before .before .open-item .kept .1 .1 .1 .1 .1 .0 ∙ s .pre .1 .0 .2, s .pre .0 .0 .target, s .pre .0 .0 .small, omega (arith, s .pre .0 .0 .counted, s .pre .0 .0 .eight)),
-    )
-
-same-length-2 : tie.Need-same-length-2
-same-length-2 c = search needs
+    judged-asked S (opening S old e (I .marked) (I .below) (I .links .arcs)) W (c .before .before .before .before .before .before .before .before .before .before .open-item .ensures) (sym R) (j .last .1 .1 .1 .1 .1 .0) (j .result)
+    (sym (getD-take (s .args .turn .rows) (s .args .places .now) 0 0 (omega (arith, S .counted, R)))) (j .ensures .0) (j .ensures .1 .0) (j .ensures .1 .1)
 
 returns-2 : tie.Need-returns-2
 returns-2 c old e W B =
-    let s = c .before .before .before .before .before .before .before .before .before .before .before .before .before .before .before .before .before .before .before in
-    let a = s .args in
-    let O = opening (s .pre .0 .0) old (a .o .item) (a .marks .now) (take (a .o .count * 3) (a .packed .now)) e (s .pre .1 .0 .0) (s .pre .1 .0 .1) (s .pre .0 .1 .arcs) in
-    let j = c .before .before .stays-open2 in
-    judged-asked (s .pre .0 .0) O W (c .before .before .before .before .before .before .before .before .before .before .open-item .ensures) (j .last .1 .1 .1 .1 .1 .0) (j .result) (j .ensures .0) (j .ensures .1 .0) (j .ensures .1 .1)
-
-same-length-3 : tie.Need-same-length-3
-same-length-3 c = search needs
-
-returns-3 : tie.Need-returns-3
-returns-3 c old e W B =
     let s = c .before .before .before .before .before .before .before .before .before .before .before .before .before .before .before in
-    let a = s .args in
-    let O = opening (s .pre .0 .0) old (a .o .item) (a .marks .now) (take (a .o .count * 3) (a .packed .now)) e (s .pre .1 .0 .0) (s .pre .1 .0 .1) (s .pre .0 .1 .arcs) in
-    judged-unmoved (s .pre .0 .0) O W (c .before .before .before .before .before .before .open-item .ensures) B (s .pre .1 .1 (c .before .before .before .if1 .left)) (c .before .moved .ensures .0 (c .if2 .left))
+    let S = s .pre .0 in
+    let I = s .pre .1 in
+    let m = c .before .may-fit .ensures in
+    judged-unmoved S (opening S old e (I .marked) (I .below) (I .links .arcs)) W (c .before .before .before .before .before .before .open-item .ensures)
+    (sym (length-take-le (s .args .turn .rows) (s .args .places .now) (s .pre .2))) B (m .0 (c .if1 .left)) (m .1 (c .if1 .left))
 
 pub blocked-spec : {M : Type 1} → statement M
 blocked-spec =
     tie.close
     (tie.spec
-    shared-slice-read-moved
+    shared-slice-read-goals
+    slice-aggregate-open-item
     open-item-requires
+    (λ c. search needs)
+    (λ c. search needs)
+    (λ c. search needs)
+    (λ c. search needs)
+    may-fit-requires
     stays-open-requires
-    same-length
+    (λ c. search needs)
     returns
-    moved-requires
-    stays-open-requires-2
-    same-length-2
-    returns-2
-    same-length-3
-    returns-3)
+    (λ c. search needs)
+    returns-2)

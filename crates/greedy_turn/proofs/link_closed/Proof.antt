@@ -1,4 +1,4 @@
--- `turns::link_closed` meets its contract: an arc that was put behind the others is taken off its chain, and else the arcs are packed anew. Assumes nothing.
+-- `greedy_turn::link_closed` meets its contract: an arc that was put behind the others is taken off its chain, and else the arcs are packed anew. Assumes nothing.
 use Prim.Native.Nat.{_*_, _<_}
 use native.Mathlib.Omega.{arith}
 use borrow.Author.Needs.{needs}
@@ -14,28 +14,16 @@ add-if2 c = omega (arith, c .before .before .before .before .before .pre .0 .3)
 take-off-requires : tie.Need-take-off-requires
 take-off-requires c κs =
     let s = c .before .before .before .before .before .before .before in
-    let k = s .args .t .count in
+    let k = s .args .turn .count in
     let S = s .pre .0 .2 in
     let packed = s .args .packed .now in
     let h : k < arcCount (take (s .args .count * 3) packed) = omega (arith, length-take-le (s .args .count * 3) packed (omega (arith, S .room, S .long))) in
     (S .long, omega (arith, S .room), omega (arith, S .joins k h .0, getD-take (s .args .count * 3) packed (k * 3) 0 (omega arith)))
 
-same-length : tie.Need-same-length
-same-length c = search needs
-
 returns : tie.Need-returns
 returns c =
     let s = c .before .before .before .before .before .before .before .before .before .before in
     rw (c .before .before .take-off .ensures) (s .pre .1 (omega arith) (c .before .before .before .before .if2 .taken))
-
-pack-all-requires : tie.Need-pack-all-requires
-pack-all-requires c κs = search needs
-
-same-length-2 : tie.Need-same-length-2
-same-length-2 c = search needs
-
-returns-2 : tie.Need-returns-2
-returns-2 c = search needs
 
 pub link-closed-spec : {M : Type 1} → statement M
 link-closed-spec =
@@ -43,8 +31,8 @@ link-closed-spec =
     (tie.spec
     add-if2
     take-off-requires
-    same-length
+    (λ c. search needs)
     returns
-    pack-all-requires
-    same-length-2
-    returns-2)
+    (λ c κs. search needs)
+    (λ c. search needs)
+    (λ c. search needs))

@@ -1,4 +1,5 @@
--- `turns::take_turn` meets its contract: an open item is passed, a closed one is opened, and where a walk fits then the marks, the arcs and the rows are as before. Assumes nothing.
+-- `greedy_turn::take_turn` meets its contract: an open item is passed, a closed one is opened, and where a walk fits then the marks, the arcs and the rows
+-- are as before. Assumes nothing.
 use mathlib.Core.Path.{_≡_, refl, _∙_}
 use mathlib.Core.Bool.{true}
 use native.Mathlib.Omega.{arith}
@@ -7,111 +8,85 @@ use borrow.Author.Tests.{eq-eqb, ne-eqb}
 use lib.ListN.{length-set}
 use Rattle.walks.specs.Graph.{closedIn}
 use Rattle.row_links.proofs.LinkLaws.{linked-shaped}
-use Rattle.greedy_turn.proofs.TurnLaws.{set-proper, set-goals, entries-below, closed-again, turn-passed, turn-opened, turn-listed, state-opened, state-listed}
+use Rattle.greedy_turn.proofs.TurnLaws.{set-proper, set-goals, in-turn, closed-again, turn-passed, turn-opened, turn-listed, state-opened, state-listed}
 use Rattle.greedy_turn.proofs.take_turn.Statement.{statement}
 use Rattle.greedy_turn.proofs.take_turn.Tie as tie
 
-slice-read-if1 : tie.Need-slice-read-if1
-slice-read-if1 c = search needs
-
 returns : tie.Need-returns
-returns c = let s = c .before .before .before .before .before .before .before .before in (turn-passed (ne-eqb _ _ (c .if1 .taken)), s .pre .1)
-
-slice-write-marks : tie.Need-slice-write-marks
-slice-write-marks c = search needs
+returns c = (turn-passed (ne-eqb _ _ (c .if1 .taken)), c .before .before .before .before .before .before .before .pre .1)
 
 pack-opened-requires : tie.Need-pack-opened-requires
-pack-opened-requires c κs = let s = c .before .before .before .before .before .before .before .before .before .before in (set-proper (s .pre .0 .0) _ (simp length-set (s .pre .1 .marked)), s .pre .0 .2, s .pre .0 .1, s .pre .1 .links .long)
-
-is-goal-requires : tie.Need-is-goal-requires
-is-goal-requires c κs = search needs
+pack-opened-requires c κs = let s = c .before .before .before .before .before .before .before .before .before in (set-proper (s .pre .0 .0) _ (simp length-set (s .pre .1 .marked)), s .pre .0 .1, s .pre .0 .0 .short, s .pre .1 .links .long)
 
 blocked-requires : tie.Need-blocked-requires
 blocked-requires c κs =
-    let s = c .before .before .before .before .before .before .before .before .before .before .before .before .before .before .before .before .before in
-    let t = c .before .before .before .before .before .before .pack-opened in (
-      (s .pre .0 .0, t .ensures .opened (s .args .marks .now) refl (s .pre .1 .links)),
-      (
-        (simp length-set (s .pre .1 .marked), s .pre .0 .2, s .pre .1 .long, entries-below (s .pre .0 .0) (s .pre .1) (s .args .t .item)),
-        c .before .before .before .is-goal .ensures,
-      ),
-    )
-
-same-length : tie.Need-same-length
-same-length c = search needs
-
-same-length-2 : tie.Need-same-length-2
-same-length-2 c = search needs
-
-same-length-3 : tie.Need-same-length-3
-same-length-3 c = search needs
+    let s = c .before .before .before .before .before .before .before .before .before .before .before .before .before .before .before in
+    let t = c .before .before .before .before .before .pack-opened in
+    (s .pre .0 .0, in-turn (s .pre .0 .0) (s .pre .1) (s .args .turn .item) (s .pre .0 .1) (t .ensures .opened (s .args .marks .now) refl (s .pre .1 .links)), s .pre .0 .2)
 
 returns-2 : tie.Need-returns-2
 returns-2 c =
-    let s = c .before .before .before .before .before .before .before .before .before .before .before .before .before .before .before .before .before .before .before .before .before in
-    let t = c .before .before .before .before .before .before .before .before .before .before .pack-opened in
-    let p : closedIn (s .args .marks .now) (s .args .t .item) ≡ true = eq-eqb _ _ (c .before .before .before .before .before .before .before .before .before .before .before .before .before .if1 .left) in
-    let J = rw (c .if2 .taken) at (c .before .before .before .blocked .ensures (s .args .marks .now) refl (s .pre .1 .ready) (s .pre .1 .blocked)) in
-    (turn-opened p J, state-opened (s .pre .0 .0) (s .pre .1) (s .args .t .item) (c .before .before .before .blocked .kept .1 .1 .1 .1 .1 .1 .0) (t .ensures .opened (s .args .marks .now) refl (s .pre .1 .links)) J)
+    let s = c .before .before .before .before .before .before .before .before .before .before .before .before .before .before .before .before .before .before .before in
+    let t = c .before .before .before .before .before .before .before .before .before .pack-opened in
+    let b = c .before .before .before .blocked in
+    let p : closedIn (s .args .marks .now) (s .args .turn .item) ≡ true = eq-eqb _ _ (c .before .before .before .before .before .before .before .before .before .before .before .before .if1 .left) in
+    let J = rw (c .if2 .taken) at (b .ensures (s .args .marks .now) refl (s .pre .1 .ready) (s .pre .1 .blocked)) in
+    (turn-opened p J, state-opened (s .pre .0 .0) (s .pre .1) (s .args .turn .item) (b .kept .1 .1 .1 .1 .1 .0) (t .ensures .opened (s .args .marks .now) refl (s .pre .1 .links)) J)
 
 slice-write-marks-2 : tie.Need-slice-write-marks-2
-slice-write-marks-2 c = let s = c .before .before .before .before .before .before .before .before .before .before .before .before .before .before .before .before .before .before .before .before .before in simp length-set (omega (arith, s .pre .1 .marked, s .pre .0 .2))
+slice-write-marks-2 c = let s = c .before .before .before .before .before .before .before .before .before .before .before .before .before .before .before .before .before .before .before in simp length-set (omega (arith, s .pre .1 .marked, s .pre .0 .1))
 
 note-goals-requires : tie.Need-note-goals-requires
-note-goals-requires c κs = let s = c .before .before .before .before .before .before .before .before .before .before .before .before .before .before .before .before .before .before .before .before .before .before .before in (set-proper (s .pre .0 .0) _ (simp length-set (s .pre .1 .marked)), set-goals (s .pre .0 .0) _, omega (arith, s .pre .1 .long, c .before .before .before .before .before .blocked .kept .1 .1 .1 .1 .1 .1 .0))
+note-goals-requires c κs =
+    let s = c .before .before .before .before .before .before .before .before .before .before .before .before .before .before .before .before .before .before .before .before .before .before in
+    (set-proper (s .pre .0 .0) _ (simp length-set (s .pre .1 .marked)), set-goals (s .pre .0 .0) _, omega (arith, s .pre .1 .long, c .before .before .before .before .before .before .blocked .kept .1 .1 .1 .1 .1 .0))
 
 link-closed-requires : tie.Need-link-closed-requires
 link-closed-requires c κs =
-    let s = c .before .before .before .before .before .before .before .before .before .before .before .before .before .before .before .before .before .before .before .before .before .before .before .before .before .before .before .before in
+    let s = c .before .before .before .before .before .before .before .before .before .before .before .before .before .before .before .before .before .before .before .before .before .before .before .before .before .before .before in
     let t = c .before .before .before .before .before .before .before .before .before .before .before .before .before .before .before .before .before .pack-opened in
-    let p : closedIn (s .args .marks .now) (s .args .t .item) ≡ true = eq-eqb _ _ (c .before .before .before .before .before .before .before .before .before .before .before .before .before .before .before .before .before .before .before .before .if1 .left) in (
+    let p : closedIn (s .args .marks .now) (s .args .turn .item) ≡ true = eq-eqb _ _ (c .before .before .before .before .before .before .before .before .before .before .before .before .before .before .before .before .before .before .before .before .if1 .left) in (
       (
         set-proper (s .pre .0 .0) _ (simp length-set (s .pre .1 .marked)),
-        s .pre .0 .1,
+        s .pre .0 .0 .short,
         linked-shaped (set-proper (s .pre .0 .0) _ (simp length-set (s .pre .1 .marked))) (t .ensures .opened (s .args .marks .now) refl (s .pre .1 .links)),
         omega (arith, s .pre .1 .links .room),
       ),
-      λ a b. rw (closed-again (s .args .marks .now) (s .args .t .item) p) (t .ensures .again (s .args .marks .now) refl (s .pre .1 .links) a b),
+      λ a b. rw (closed-again (s .args .marks .now) (s .args .turn .item) p) (t .ensures .again (s .args .marks .now) refl (s .pre .1 .links) a b),
     )
-
-same-length-4 : tie.Need-same-length-4
-same-length-4 c = search needs
-
-same-length-5 : tie.Need-same-length-5
-same-length-5 c = search needs
-
-same-length-6 : tie.Need-same-length-6
-same-length-6 c = search needs
 
 returns-3 : tie.Need-returns-3
 returns-3 c =
-    let s = c .before .before .before .before .before .before .before .before .before .before .before .before .before .before .before .before .before .before .before .before .before .before .before .before .before .before .before .before .before .before .before in
-    let b = c .before .before .before .before .before .before .before .before .before .before .before .before .before .blocked in
+    let s = c .before .before .before .before .before .before .before .before .before .before .before .before .before .before .before .before .before .before .before .before .before .before .before .before .before .before .before .before .before .before in
+    let b = c .before .before .before .before .before .before .before .before .before .before .before .before .before .before .blocked in
     let g = c .before .before .before .before .before .before .before .note-goals in
-    let p : closedIn (s .args .marks .now) (s .args .t .item) ≡ true = eq-eqb _ _ (c .before .before .before .before .before .before .before .before .before .before .before .before .before .before .before .before .before .before .before .before .before .before .before .if1 .left) in
-    let J = rw (c .before .before .before .before .before .before .before .before .before .before .if2 .left) at (b .ensures (s .args .marks .now) refl (s .pre .1 .ready) (s .pre .1 .blocked)) in (
+    let p : closedIn (s .args .marks .now) (s .args .turn .item) ≡ true = eq-eqb _ _ (c .before .before .before .before .before .before .before .before .before .before .before .before .before .before .before .before .before .before .before .before .before .before .before .if1 .left) in
+    let J = rw (c .before .before .before .before .before .before .before .before .before .before .before .if2 .left) at (b .ensures (s .args .marks .now) refl (s .pre .1 .ready) (s .pre .1 .blocked)) in (
       turn-listed p J,
-      state-listed (s .pre .0 .0) (s .pre .1) (s .args .t .item) p (g .kept .1 .1 .1 .1 .0 ∙ b .kept .1 .1 .1 .1 .1 .1 .0) (c .before .before .link-closed .ensures) J (g .ensures .0) (g .ensures .1 .0),
+      state-listed (s .pre .0 .0) (s .pre .1) (s .args .turn .item) p (g .kept .1 .1 .1 .1 .0 ∙ b .kept .1 .1 .1 .1 .1 .0) (c .before .before .link-closed .ensures) J (g .ensures .0) (g .ensures .1 .0),
     )
 
 pub take-turn-spec : {M : Type 1} → statement M
 take-turn-spec =
     tie.close
     (tie.spec
-    slice-read-if1
+    (λ c. search needs)
     returns
-    slice-write-marks
+    (λ c. search needs)
     pack-opened-requires
-    is-goal-requires
     blocked-requires
-    same-length
-    same-length-2
-    same-length-3
+    (λ c. search needs)
+    (λ c. search needs)
+    (λ c. search needs)
     returns-2
     slice-write-marks-2
+    (λ c. search needs)
+    (λ c. search needs)
+    (λ c. search needs)
+    (λ c. search needs)
     note-goals-requires
     link-closed-requires
-    same-length-4
-    same-length-5
-    same-length-6
+    (λ c. search needs)
+    (λ c. search needs)
+    (λ c. search needs)
     returns-3)

@@ -37,9 +37,6 @@ put-requires c κs =
     let l = c .before .before .loop in
     (fits-kept (s .pre .0) (l .inv .1) (l .inv .0), next (c .before) .in-set, s .pre .1)
 
-sub-rest : tie.Need-sub-rest Inv-loop μ-loop
-sub-rest c = omega arith
-
 loop-less : tie.Need-loop-less Inv-loop μ-loop
 loop-less c = let l = c .before .before .before .before .before .loop in omega (arith, and-le-r (l .rest) (l .rest - 1))
 
@@ -70,7 +67,7 @@ fill-set-spec =
     loop-holds
     cast-i
     put-requires
-    sub-rest
+    (λ c. omega arith)
     loop-less
     loop-again
     same-length

@@ -8,23 +8,11 @@ use borrow.Author.Needs.{needs}
 use Rattle.lengths.proofs.least.Statement.{statement}
 use Rattle.lengths.proofs.least.Tie as tie
 
-start-rows-requires : tie.Need-start-rows-requires
-start-rows-requires c κs = search needs
-
-note-goals-requires : tie.Need-note-goals-requires
-note-goals-requires c κs = search needs
-
 fill-table-requires : tie.Need-fill-table-requires
 fill-table-requires c κs =
     let s = c .before .before .before .before .before .before .before .before .before .before .before .before .before in
     let n = c .before .before .before .note-goals in
     (table-room (s .pre .0 .0) (s .pre .0 .1) (omega (arith, n .kept .1 .1 .1 .1 .0, c .before .before .before .before .before .before .before .start-rows .kept .1 .1 .1 .1 .0, s .pre .1 .0)) (n .ensures .0), s .pre .1 .3)
-
-reach-goals-requires : tie.Need-reach-goals-requires
-reach-goals-requires c κs = search needs
-
-same-length : tie.Need-same-length
-same-length c = search needs
 
 returns : tie.Need-returns
 unfolding held
@@ -33,12 +21,12 @@ returns c =
     let r = c .before .before .before .before .before .before .before .before .before .before .before .before .start-rows in
     let n = c .before .before .before .before .before .before .before .before .note-goals in
     let f = c .before .before .before .before .fill-table in
-    let N = netOf (s .args .q .nodes) (s .args .arcs .now) (s .args .marks .now) in
+    let N = netOf (s .args .query .nodes) (s .args .arcs .now) (s .args .marks .now) in
     let goals = s .args .goals .now in
     let R = rowed-kept (s .pre .0 .0 .few) (s .pre .0 .1 .eight) (n .ensures .1 .0) (r .ensures .0) in
     let F = filled-begun (s .pre .0 .0) (s .pre .0 .1) R (n .ensures .0) in
-    let G = f .ensures .0 N (s .args .q .from) goals refl F in (
-      c .reach-goals .ensures N (s .args .q .from) goals refl (s .pre .1 .2) G,
+    let G = f .ensures .0 N (s .args .query .from) goals refl F in (
+      c .reach-goals .ensures N (s .args .query .from) goals refl (s .pre .1 .2) G,
       (
         G .rowed,
         f .ensures .1 .behind ∙ drop-further 592 3072 (n .last .1 .1 .1 .1 .0) (r .last .1 .1 .1 .1 .0) (omega arith) (n .ensures .1 .1)
@@ -50,9 +38,9 @@ pub least-spec : {M : Type 1} → statement M
 least-spec =
     tie.close
     (tie.spec
-    start-rows-requires
-    note-goals-requires
+    (λ c κs. search needs)
+    (λ c κs. search needs)
     fill-table-requires
-    reach-goals-requires
-    same-length
+    (λ c κs. search needs)
+    (λ c. search needs)
     returns)

@@ -20,12 +20,6 @@ abbrev μ-loop : tie.MeasureT-loop
 loop-holds : tie.Need-loop-holds Inv-loop μ-loop
 loop-holds c = (omega arith, refl, record { entries = λ j h. absurd (omega arith); owns = λ j h. absurd (omega arith) }, refl, refl)
 
-mul-entry : tie.Need-mul-entry Inv-loop μ-loop
-mul-entry c = omega arith
-
-shared-slice-read-entry : tie.Need-shared-slice-read-entry Inv-loop μ-loop
-shared-slice-read-entry c = omega arith
-
 entry-requires : tie.Need-entry-requires Inv-loop μ-loop
 entry-requires c κs =
     let s = c .before .before .before .before .before .before .before in
@@ -40,12 +34,6 @@ mul-work c = omega (arith, c .before .before .before .before .before .before .be
 slice-write-work : tie.Need-slice-write-work Inv-loop μ-loop
 slice-write-work c = omega (arith, c .before .before .before .before .before .before .before .before .pre .1 .eight, c .before .before .before .loop .inv .1, c .before .before .before .before .before .before .before .before .pre .2)
 
-mul-own : tie.Need-mul-own Inv-loop μ-loop
-mul-own c = omega arith
-
-shared-slice-read-own : tie.Need-shared-slice-read-own Inv-loop μ-loop
-shared-slice-read-own c = omega arith
-
 own-requires : tie.Need-own-requires Inv-loop μ-loop
 own-requires c κs =
     let s = c .before .before .before .before .before .before .before .before .before in
@@ -59,12 +47,6 @@ mul-work-2 c = omega (arith, c .before .before .before .before .before .before .
 
 slice-write-work-2 : tie.Need-slice-write-work-2 Inv-loop μ-loop
 slice-write-work-2 c = simp length-set (omega (arith, c .before .before .before .before .before .before .before .before .before .before .pre .1 .eight, c .before .before .before .before .before .loop .inv .1, c .before .before .before .before .before .before .before .before .before .before .pre .2))
-
-add-i : tie.Need-add-i Inv-loop μ-loop
-add-i c = omega arith
-
-loop-less : tie.Need-loop-less Inv-loop μ-loop
-loop-less c = omega arith
 
 loop-again : tie.Need-loop-again Inv-loop μ-loop
 loop-again c =
@@ -96,20 +78,20 @@ note-goals-spec =
     Inv-loop
     μ-loop
     loop-holds
-    mul-entry
-    shared-slice-read-entry
+    (λ c. omega arith)
+    (λ c. omega arith)
     entry-requires
     add-work
     mul-work
     slice-write-work
-    mul-own
-    shared-slice-read-own
+    (λ c. omega arith)
+    (λ c. omega arith)
     own-requires
     add-work-2
     mul-work-2
     slice-write-work-2
-    add-i
-    loop-less
+    (λ c. omega arith)
+    (λ c. omega arith)
     loop-again
     same-length
     returns)

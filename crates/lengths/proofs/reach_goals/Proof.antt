@@ -8,17 +8,8 @@ use borrow.Author.Needs.{needs}
 use Rattle.lengths.proofs.reach_goals.Statement.{statement}
 use Rattle.lengths.proofs.reach_goals.Tie as tie
 
-mul-result : tie.Need-mul-result
-mul-result c = search needs
-
-shared-slice-read-result : tie.Need-shared-slice-read-result
-shared-slice-read-result c = search needs
-
 returns : tie.Need-returns
 returns c = λ N a goals q h F. let s = c .before .before .before in no-goals (s .args .count) (s .args .to) q F h (c .before .if1 .taken)
-
-bit-requires : tie.Need-bit-requires
-bit-requires c κs = search needs
 
 -- with a goal there are two sets at least
 some-sets : (c : tie.Else1) → 2 ≤ 2 ^ (c .before .before .args .count)
@@ -42,10 +33,10 @@ pub reach-goals-spec : {M : Type 1} → statement M
 reach-goals-spec =
     tie.close
     (tie.spec
-    mul-result
-    shared-slice-read-result
+    (λ c. search needs)
+    (λ c. search needs)
     returns
-    bit-requires
+    (λ c κs. search needs)
     sub-reach
     reach-requires
     returns-2)

@@ -16,30 +16,15 @@ Inv-loop nodes arcs from goals starts₀ i₀ starts i = (i ≤ length goals) ×
 abbrev μ-loop : tie.MeasureT-loop
 μ-loop nodes arcs from goals starts₀ i₀ starts i = length goals - i
 
-slice-write-starts : tie.Need-slice-write-starts Inv-loop μ-loop
-slice-write-starts c = omega arith
-
 loop-holds : tie.Need-loop-holds Inv-loop μ-loop
 loop-holds c =
     let s = c .before .before .before in
     (omega arith, refl, start-begun (graphOf (s .args .nodes) (now (s .args .arcs))) (s .args .from) (s .args .goals .now) (s .args .starts .now) (s .pre .0 .2) (omega arith))
 
-mul-exit : tie.Need-mul-exit Inv-loop μ-loop
-mul-exit c = omega arith
-
-shared-slice-read-exit : tie.Need-shared-slice-read-exit Inv-loop μ-loop
-shared-slice-read-exit c = omega arith
-
 exit-requires : tie.Need-exit-requires Inv-loop μ-loop
 exit-requires c κs =
     let s = c .before .before .before .before .before .before in
     (s .pre .0 .0, s .pre .1 (c .before .before .loop .i) (c .before .loop-test .taken))
-
-add-starts : tie.Need-add-starts Inv-loop μ-loop
-add-starts c = omega arith
-
-mul-starts : tie.Need-mul-starts Inv-loop μ-loop
-mul-starts c = omega arith
 
 slice-write-starts-2 : tie.Need-slice-write-starts-2 Inv-loop μ-loop
 slice-write-starts-2 c =
@@ -47,12 +32,6 @@ slice-write-starts-2 c =
     let l = c .before .before .before .loop in
     let q : length (l .starts) ≡ length (s .args .starts .now) = l .inv .1 ∙ length-set (s .args .starts .now) 0 (s .args .from) in
     omega arith
-
-add-i : tie.Need-add-i Inv-loop μ-loop
-add-i c = omega arith
-
-loop-less : tie.Need-loop-less Inv-loop μ-loop
-loop-less c = omega arith
 
 loop-again : tie.Need-loop-again Inv-loop μ-loop
 loop-again c =
@@ -76,16 +55,16 @@ set-starts-spec =
     (tie.spec
     Inv-loop
     μ-loop
-    slice-write-starts
+    (λ c. omega arith)
     loop-holds
-    mul-exit
-    shared-slice-read-exit
+    (λ c. omega arith)
+    (λ c. omega arith)
     exit-requires
-    add-starts
-    mul-starts
+    (λ c. omega arith)
+    (λ c. omega arith)
     slice-write-starts-2
-    add-i
-    loop-less
+    (λ c. omega arith)
+    (λ c. omega arith)
     loop-again
     same-length
     returns)

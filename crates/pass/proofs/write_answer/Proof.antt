@@ -1,14 +1,14 @@
 -- `pass::write_answer` meets its contract: the slip of verdict 0, or the goals and their reasons. Assumes nothing.
-use Prim.Native.Nat.{ℕ}
-use mathlib.Core.Path.{sym, ap, _∙_}
+use Prim.Native.Nat.{ℕ, _≤_}
+use mathlib.Core.Path.{_≡_, sym, ap, _∙_}
 use mathlib.Core.List.{List}
 use native.Mathlib.Omega.{arith}
-use lib.ListN.{length}
+use lib.ListN.{length, take}
 use lib.Seq.{length-take-le}
-use Rattle.lists.specs.Lists.{front}
-use Rattle.sheet.specs.Slip.{slipBytes}
-use Rattle.pass.proofs.AnswerLaws.{stands-slip, goals-fit, unmet, reasons-inside, slip-room, named-slip, blames-slip}
 use borrow.Author.Needs.{needs}
+use Rattle.lists.specs.Lists.{front}
+use Rattle.item_fits.proofs.AskedLaws.{whole-sought}
+use Rattle.pass.proofs.AnswerLaws.{stands-slip, blamed, reasons-inside, slip-room, named-bytes}
 use Rattle.pass.proofs.write_answer.Statement.{statement}
 use Rattle.pass.proofs.write_answer.Tie as tie
 
@@ -42,29 +42,34 @@ same-length-2 c = search needs
 returns : tie.Need-returns
 returns c =
     let s = c .before .before .before .before .before .before .before .before .before .before .before .before .before .before .before .before .before .before .before .before .before in
-    let j = c .before .before .before .before .before .before .before .before .before .before .find-verdict in
-    let w = c .before .before .write-stands in
-    let e = stands-slip (s .pre .0) (j .result) (j .last .1 .1 .1 .1 .0) (j .ensures .0) (c .before .before .before .before .before .if1 .taken) in
-    (w .ensures .0 ∙ ap length e, (w .ensures .1 ∙ ap (λ (xs : List ℕ). front xs (s .args .slip .now)) e, j .ensures .1 .1))
+    let w = c .before .before .write-stands .ensures in
+    let e = stands-slip (s .pre .0) (c .before .before .before .before .before .before .before .before .before .before .find-verdict .ensures) (c .before .before .before .before .before .if1 .taken) in
+    (w .0 ∙ ap length e, w .1 ∙ ap (λ (xs : List ℕ). front xs (s .args .slip .now)) e)
 
 array-share-prefix-goals : tie.Need-array-share-prefix-goals
 array-share-prefix-goals c = search needs
 
+-- the goals that were found
+goals-long : (p : tie.After-find-verdict) → p .find-verdict .result .count ≡ length (take (p .find-verdict .result .count) (p .find-verdict .last .1 .1 .1 .1 .0))
+goals-long p =
+    let j = p .find-verdict in
+    sym (length-take-le (j .result .count) (j .last .1 .1 .1 .1 .0) (omega (arith, j .ensures .count, j .kept .1 .1 .1 .1 .0)))
+
 slice-aggregate-ready-rows : tie.Need-slice-aggregate-ready-rows
-slice-aggregate-ready-rows c = let j = c .before .before .before .before .before .before .find-verdict in sym (length-take-le (j .result .count) (j .last .1 .1 .1 .1 .0) (omega (arith, j .ensures .0 .count, j .kept .1 .1 .1 .1 .0)))
+slice-aggregate-ready-rows c = goals-long (c .before .before .before .before .before .before)
 
 ready-rows-requires : tie.Need-ready-rows-requires
 ready-rows-requires c κs =
     let s = c .before .before .before .before .before .before .before .before .before .before .before .before .before .before .before .before .before .before in
     let j = c .before .before .before .before .before .before .before .find-verdict in
-    let n = c .before .before .if1 .left in
-    ((s .pre .0, goals-fit (s .pre .0) (j .result) (j .last .1 .1 .1 .1 .0) (j .ensures .0) n, omega (arith, s .pre .1, j .kept .1 .1 .1 .1 .1 .0)), j .ensures .1 .0)
+    let u = blamed (s .pre .0) (j .ensures) (c .before .before .if1 .left) in
+    ((whole-sought (u .whole) (u .fit), omega (arith, s .pre .1, j .kept .1 .1 .1 .1 .1 .0)), j .ensures .rowed)
 
 array-share-prefix-goals-2 : tie.Need-array-share-prefix-goals-2
 array-share-prefix-goals-2 c = search needs
 
 slice-aggregate-list-for-sheet : tie.Need-slice-aggregate-list-for-sheet
-slice-aggregate-list-for-sheet c = let j = c .before .before .before .before .before .before .before .before .before .before .before .find-verdict in sym (length-take-le (j .result .count) (j .last .1 .1 .1 .1 .0) (omega (arith, j .ensures .0 .count, j .kept .1 .1 .1 .1 .0)))
+slice-aggregate-list-for-sheet c = goals-long (c .before .before .before .before .before .before .before .before .before .before .before)
 
 slice-aggregate-list-for-sheet-2 : tie.Need-slice-aggregate-list-for-sheet-2
 slice-aggregate-list-for-sheet-2 c = search needs
@@ -73,28 +78,29 @@ list-for-sheet-requires : tie.Need-list-for-sheet-requires
 list-for-sheet-requires c κs =
     let s = c .before .before .before .before .before .before .before .before .before .before .before .before .before .before .before .before .before .before .before .before .before .before .before .before in
     let j = c .before .before .before .before .before .before .before .before .before .before .before .before .before .find-verdict in
-    let n = c .before .before .before .before .before .before .before .before .if1 .left in
     let t = c .before .before .before .before .before .ready-rows in
-    ((s .pre .0, goals-fit (s .pre .0) (j .result) (j .last .1 .1 .1 .1 .0) (j .ensures .0) n), (omega (arith, s .pre .1, t .kept .1 .1 .1 .1 .1 .0, j .kept .1 .1 .1 .1 .1 .0), omega arith, unmet (s .pre .0) (j .result) (j .last .1 .1 .1 .1 .0) (j .ensures .0) n, t .ensures .0))
+    ((blamed (s .pre .0) (j .ensures) (c .before .before .before .before .before .before .before .before .if1 .left), omega (arith, s .pre .1, t .kept .1 .1 .1 .1 .1 .0, j .kept .1 .1 .1 .1 .1 .0), omega arith), t .ensures)
 
 array-share-prefix-goals-3 : tie.Need-array-share-prefix-goals-3
 array-share-prefix-goals-3 c = search needs
 
 slice-aggregate-write-slip : tie.Need-slice-aggregate-write-slip
-slice-aggregate-write-slip c = let j = c .before .before .before .before .before .before .before .before .before .before .before .before .before .before .before .before .before .before .before .find-verdict in sym (length-take-le (j .result .count) (j .last .1 .1 .1 .1 .0) (omega (arith, j .ensures .0 .count, j .kept .1 .1 .1 .1 .0)))
+slice-aggregate-write-slip c = goals-long (c .before .before .before .before .before .before .before .before .before .before .before .before .before .before .before .before .before .before .before)
+
+-- the reasons that were listed
+reasons-long : (p : tie.After-list-for-sheet) → p .list-for-sheet .result ≤ length (p .list-for-sheet .last .1 .1 .1 .1 .1 .0)
+reasons-long p = let r = p .list-for-sheet in reasons-inside (p .before .before .before .before .before .before .before .before .before .before .before .before .before .before .before .before .before .before .before .before .before .before .before .before .before .pre .0) _ _ (r .ensures) (r .kept .1 .1 .1 .1 .1 .0)
 
 array-share-prefix-list : tie.Need-array-share-prefix-list
-array-share-prefix-list c = let s = c .before .before .before .before .before .before .before .before .before .before .before .before .before .before .before .before .before .before .before .before .before .before .before .before .before .before .before .before .before .before in let r = c .before .before .before .before .before .list-for-sheet in reasons-inside (s .pre .0) _ (r .last .1 .1 .1 .1 .1 .0) (r .result) (r .ensures .0) (r .kept .1 .1 .1 .1 .1 .0)
+array-share-prefix-list c = reasons-long (c .before .before .before .before .before)
 
 slice-aggregate-write-slip-2 : tie.Need-slice-aggregate-write-slip-2
-slice-aggregate-write-slip-2 c = let s = c .before .before .before .before .before .before .before .before .before .before .before .before .before .before .before .before .before .before .before .before .before .before .before .before .before .before .before .before .before .before .before in let r = c .before .before .before .before .before .before .list-for-sheet in sym (length-take-le (r .result) (r .last .1 .1 .1 .1 .1 .0) (reasons-inside (s .pre .0) _ (r .last .1 .1 .1 .1 .1 .0) (r .result) (r .ensures .0) (r .kept .1 .1 .1 .1 .1 .0)))
+slice-aggregate-write-slip-2 c = let r = c .before .before .before .before .before .before .list-for-sheet in sym (length-take-le (r .result) (r .last .1 .1 .1 .1 .1 .0) (reasons-long (c .before .before .before .before .before .before)))
 
 write-slip-requires : tie.Need-write-slip-requires
 write-slip-requires c κs =
     let s = c .before .before .before .before .before .before .before .before .before .before .before .before .before .before .before .before .before .before .before .before .before .before .before .before .before .before .before .before .before .before .before in
-    let j = c .before .before .before .before .before .before .before .before .before .before .before .before .before .before .before .before .before .before .before .before .find-verdict in
-    let r = c .before .before .before .before .before .before .list-for-sheet in
-    slip-room (s .pre .0) (j .result) (j .last .1 .1 .1 .1 .0) (j .ensures .0) (c .before .before .before .before .before .before .before .before .before .before .before .before .before .before .before .if1 .left) _ (s .pre .2) _ (r .last .1 .1 .1 .1 .1 .0) (r .result) (r .ensures .0) (r .ensures .1 .0)
+    slip-room (s .pre .0) (c .before .before .before .before .before .before .before .before .before .before .before .before .before .before .before .before .before .before .before .before .find-verdict .ensures) (c .before .before .before .before .before .before .before .before .before .before .before .before .before .before .before .if1 .left) _ (s .pre .2) _ (c .before .before .before .before .before .before .list-for-sheet .ensures)
 
 same-length-3 : tie.Need-same-length-3
 same-length-3 c = search needs
@@ -105,13 +111,9 @@ same-length-4 c = search needs
 returns-2 : tie.Need-returns-2
 returns-2 c =
     let s = c .before .before .before .before .before .before .before .before .before .before .before .before .before .before .before .before .before .before .before .before .before .before .before .before .before .before .before .before .before .before .before .before .before .before in
-    let j = c .before .before .before .before .before .before .before .before .before .before .before .before .before .before .before .before .before .before .before .before .before .before .before .find-verdict in
-    let t = c .before .before .before .before .before .before .before .before .before .before .before .before .before .before .before .ready-rows in
-    let r = c .before .before .before .before .before .before .before .before .before .list-for-sheet in
-    let w = c .before .before .write-slip in
-    let n = c .before .before .before .before .before .before .before .before .before .before .before .before .before .before .before .before .before .before .if1 .left in
-    let e = ap slipBytes (named-slip (s .pre .0) (j .result) (j .last .1 .1 .1 .1 .0) (j .ensures .0) n _ (r .last .1 .1 .1 .1 .1 .0) (r .result) (r .ensures .0) (r .ensures .1 .0)) ∙ blames-slip (s .pre .0) (j .result) (j .last .1 .1 .1 .1 .0) (j .ensures .0) n in
-    (w .ensures .0 ∙ ap length e, (w .ensures .1 ∙ ap (λ (xs : List ℕ). front xs (s .args .slip .now)) e, r .ensures .1 .1 ∙ t .ensures .1 ∙ j .ensures .1 .1))
+    let w = c .before .before .write-slip .ensures in
+    let e = named-bytes (s .pre .0) (c .before .before .before .before .before .before .before .before .before .before .before .before .before .before .before .before .before .before .before .before .before .before .before .find-verdict .ensures) (c .before .before .before .before .before .before .before .before .before .before .before .before .before .before .before .before .before .before .if1 .left) _ (c .before .before .before .before .before .before .before .before .before .list-for-sheet .ensures) in
+    (w .0 ∙ ap length e, w .1 ∙ ap (λ (xs : List ℕ). front xs (s .args .slip .now)) e)
 
 pub write-answer-spec : {M : Type 1} → statement M
 write-answer-spec =

@@ -1,9 +1,8 @@
--- `judge::judge` meets its contract: the three tests in document 01's order. Assumes nothing.
-use mathlib.Core.Path.{refl, sym, _∙_}
+-- `pass_verdict::find_verdict` meets its contract: the three tests in document 01's order. Assumes nothing.
+use mathlib.Core.Path.{sym, _∙_}
 use native.Mathlib.Omega.{arith}
 use lib.Seq.{take-suc-set}
 use borrow.Author.Tests.{lt-leb}
-use Rattle.sheet_required.specs.Held.{sheetOf}
 use Rattle.item_fits.proofs.FitLaws.{target-fits, some-walk}
 use Rattle.pass_verdict.proofs.JudgeLaws.{unmet-found, unmet-empty, judged-one, judged-two}
 use borrow.Author.Needs.{needs}
@@ -19,8 +18,7 @@ shared-slice-read-if1 c = search needs
 returns : tie.Need-returns
 returns c =
     let s = c .before .before .before .before .before .before .before .before in
-    let S = sheetOf (s .args .header) (s .args .arcs .now) (s .args .marks .now) in
-    (judged-one S _ (sym (target-fits (s .pre .0) _ (s .pre .0 .there (s .args .header .target) (s .pre .0 .whole .target))) ∙ lt-leb _ _ (c .if1 .taken)), (λ q. absurd (omega arith), refl))
+    judged-one (s .args .header) (s .args .arcs .now) (s .args .marks .now) _ _ (sym (target-fits (s .pre .0) _ (s .pre .0 .there (s .args .header .target) (s .pre .0 .whole .target))) ∙ lt-leb _ _ (c .if1 .taken))
 
 first-unmet-requires : tie.Need-first-unmet-requires
 first-unmet-requires c κs = search needs
@@ -37,10 +35,9 @@ same-length c = search needs
 returns-2 : tie.Need-returns-2
 returns-2 c =
     let s = c .before .before .before .before .before .before .before .before .before .before .before in
-    let S = sheetOf (s .args .header) (s .args .arcs .now) (s .args .marks .now) in
     let u = c .before .before .first-unmet in
     let f = unmet-found (s .pre .0 .whole) (u .result) (u .ensures) (c .if2 .taken) in
-    (judged-two S (u .result) (f .0) _ (some-walk (s .pre .0) (c .before .before .before .if1 .left)) (f .1) (take-suc-set (s .args .goals .now) 0 (u .result) (omega arith)), (λ q. absurd (omega arith), refl))
+    judged-two (s .args .header) (s .args .arcs .now) (s .args .marks .now) _ _ (u .result) (f .0) (some-walk (s .pre .0) (c .before .before .before .if1 .left)) (f .1) (take-suc-set (s .args .goals .now) 0 (u .result) (omega arith))
 
 judge-together-requires : tie.Need-judge-together-requires
 judge-together-requires c κs =

@@ -1,30 +1,28 @@
--- `ways_pass` meets its contract: the pass over numbers, told in bytes. Assumes nothing.
+-- `ways_pass` meets its contract: 1 and 2, or what the sheet draws, told in bytes. Assumes nothing.
 use borrow.Author.Needs.{needs}
-use Rattle.pass_rules.specs.Pass.{passOn, passed}
+use Rattle.pass_rules.proofs.WithinLaws.{pass-within}
+use Rattle.pass_rules.specs.Pass.{passOn}
 use Rattle.planner.specs.Layer.{passedBytes}
-use Rattle.planner.proofs.LayerLaws.{short-bytes, in-bytes, small}
-use Rattle.planner.proofs.WithinLaws.{pass-within}
+use Rattle.planner.proofs.LayerLaws.{short-bytes, short-slip, in-bytes, small}
 use Rattle.planner.proofs.ways_pass.Statement.{statement}
 use Rattle.planner.proofs.ways_pass.Tie as tie
 
 returns : tie.Need-returns
 unfolding passedBytes
-returns c = short-bytes _ _ _ (c .if1 .taken)
+returns c = let s = c .before .before .before .before in short-bytes (passOn (s .args .sheet .now)) (s .args .work .now) (s .args .slip .now) (c .if1 .taken)
 
-slice-aggregate-pass : tie.Need-slice-aggregate-pass
-slice-aggregate-pass c = search needs
+returns-2 : tie.Need-returns-2
+unfolding passedBytes
+returns-2 c = let s = c .before .before .before .before .before in short-slip (passOn (s .args .sheet .now)) (s .args .work .now) (s .args .slip .now) (c .before .if1 .left) (c .if2 .taken)
 
-pass-requires : tie.Need-pass-requires
-pass-requires c κs = search needs
+pass-sheet-requires : tie.Need-pass-sheet-requires
+pass-sheet-requires c κs = search needs
 
-leave-requires : tie.Need-leave-requires
-leave-requires c κs = search needs
+leave-bytes-requires : tie.Need-leave-bytes-requires
+leave-bytes-requires c κs = search needs
 
 one-number-requires : tie.Need-one-number-requires
-unfolding passed
-one-number-requires c κs =
-    let s = c .before .before .before .before .before .before .before .before .before .before .before .before .before .before in
-    small _ (s .args .work .now) (s .args .slip .now) (search needs) (search needs) (passOn (s .args .sheet .now)) (pass-within (s .args .sheet .now)) _ (c .before .before .before .before .before .before .before .pass .ensures)
+one-number-requires c κs = let s = c .before .before .before .before .before .before .before .before .before .before .before .before .before in small (passOn (s .args .sheet .now)) (s .args .slip .now) (pass-within (s .args .sheet .now)) _ (c .before .before .before .before .before .before .pass-sheet .ensures)
 
 same-length : tie.Need-same-length
 same-length c = search needs
@@ -32,21 +30,14 @@ same-length c = search needs
 same-length-2 : tie.Need-same-length-2
 same-length-2 c = search needs
 
-returns-2 : tie.Need-returns-2
-unfolding passedBytes passed
-returns-2 c =
-    let s = c .before .before .before .before .before .before .before .before .before .before .before .before .before .before .before in
-    in-bytes _ (s .args .work .now) (s .args .slip .now) (search needs) (search needs) (passOn (s .args .sheet .now)) (pass-within (s .args .sheet .now)) _ (c .before .before .before .before .before .before .before .before .pass .ensures) (c .one-number .ensures) (c .before .before .before .leave .ensures)
+returns-3 : tie.Need-returns-3
+unfolding passedBytes
+returns-3 c =
+    let s = c .before .before .before .before .before .before .before .before .before .before .before .before .before .before in
+    in-bytes (passOn (s .args .sheet .now)) (s .args .work .now) (s .args .slip .now) (c .before .before .before .before .before .before .before .before .before .before .if1 .left) (c .before .before .before .before .before .before .before .before .before .if2 .left) (pass-within (s .args .sheet .now)) _
+    (c .before .before .before .before .before .before .before .pass-sheet .ensures) (c .one-number .ensures) (c .before .before .before .leave-bytes .ensures)
 
 pub ways-pass-spec : {M : Type 1} → statement M
 ways-pass-spec =
     tie.close
-    (tie.spec
-    returns
-    slice-aggregate-pass
-    pass-requires
-    leave-requires
-    one-number-requires
-    same-length
-    same-length-2
-    returns-2)
+    (tie.spec returns returns-2 pass-sheet-requires leave-bytes-requires one-number-requires same-length same-length-2 returns-3)

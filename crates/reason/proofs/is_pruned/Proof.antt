@@ -29,7 +29,7 @@ returns : tie.Need-returns
 returns c =
     let s = c .before .before .before .before .before .before .before .before .before .before .before .before .before .before .before in
     let j = c .before .before .before .before .before .find-verdict in
-    (not-standing (sheetOf (s .args .header) (s .args .arcs .now) (s .args .marks .now)) (s .args .item) (λ z. c .if1 .taken (j .ensures .0 .number ∙ z)), j .ensures .1 .1)
+    not-standing (sheetOf (s .args .header) (s .args .arcs .now) (s .args .marks .now)) (s .args .item) (λ z. c .if1 .taken (j .ensures .number ∙ z))
 
 shared-slice-read-if2 : tie.Need-shared-slice-read-if2
 shared-slice-read-if2 c = search needs
@@ -42,7 +42,7 @@ unfolding markOf
 returns-2 c =
     let s = c .before .before .before .before .before .before .before .before .before .before .before .before .before .before .before .before .before in
     let j = c .before .before .before .before .before .before .before .find-verdict in
-    (not-open (sheetOf (s .args .header) (s .args .arcs .now) (s .args .marks .now)) (s .args .item) (sym (j .ensures .0 .number) ∙ c .before .before .if1 .left) (c .if2 .taken), j .ensures .1 .1)
+    not-open (sheetOf (s .args .header) (s .args .arcs .now) (s .args .marks .now)) (s .args .item) (sym (j .ensures .number) ∙ c .before .before .if1 .left) (c .if2 .taken)
 
 slice-aggregate-fits-item : tie.Need-slice-aggregate-fits-item
 slice-aggregate-fits-item c = search needs
@@ -58,7 +58,7 @@ unfolding markOf
 returns-3 c =
     let s = c .before .before .before .before .before .before .before .before .before .before .before .before .before .before .before .before .before .before .before in
     let j = c .before .before .before .before .before .before .before .before .before .find-verdict in
-    (by-walks (sheetOf (s .args .header) (s .args .arcs .now) (s .args .marks .now)) (s .args .item) (c .fits-item .result) (sym (j .ensures .0 .number) ∙ c .before .before .before .before .if1 .left) (c .before .before .if2 .left) (c .fits-item .ensures), j .ensures .1 .1)
+    by-walks (sheetOf (s .args .header) (s .args .arcs .now) (s .args .marks .now)) (s .args .item) (c .fits-item .result) (sym (j .ensures .number) ∙ c .before .before .before .before .if1 .left) (c .before .before .if2 .left) (c .fits-item .ensures)
 
 pub is-pruned-spec : {M : Type 1} → statement M
 is-pruned-spec =

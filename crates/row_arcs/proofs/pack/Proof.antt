@@ -1,4 +1,4 @@
--- `arcs::pack` meets its contract. The loop's invariant: the arcs below `i` are looked at, and the open ones packed. Assumes nothing.
+-- `row_arcs::pack` meets its contract. The loop's invariant: the arcs below `i` are looked at, and the open ones packed. Assumes nothing.
 use mathlib.Core.Path.{_≡_, refl, _∙_}
 use Prim.Native.Nat.{_*_, _-_, _≤_}
 use native.Mathlib.Omega.{arith}
@@ -27,20 +27,11 @@ pack-arc-requires c κs =
     let l = c .before .before .loop in
     (s .pre .0, c .before .loop-test .taken, l .inv .1, rw (l .inv .2) (s .pre .1))
 
-add-i : tie.Need-add-i Inv-loop μ-loop
-add-i c = omega arith
-
-loop-less : tie.Need-loop-less Inv-loop μ-loop
-loop-less c = omega arith
-
 loop-again : tie.Need-loop-again Inv-loop μ-loop
 loop-again c =
     let l = c .before .before .before .before .before .loop in
     let t = c .before .before .pack-arc in
     (omega arith, t .ensures .0, t .kept .1 .1 .1 .0 ∙ l .inv .2, t .ensures .1 (l .inv .3))
-
-mul-result : tie.Need-mul-result Inv-loop μ-loop
-mul-result c = omega arith
 
 same-length : tie.Need-same-length Inv-loop μ-loop
 same-length c = c .before .loop .inv .2
@@ -49,9 +40,9 @@ returns : tie.Need-returns Inv-loop μ-loop
 returns c =
     let l = c .before .loop in
     let s = c .before .before .before .before .before in
-    let r : l .c * 3 ≤ length (l .packed) = omega (arith, s .pre .1, l .inv .2) in
+    let r : l .count * 3 ≤ length (l .packed) = omega (arith, s .pre .1, l .inv .2) in
     let q : l .i ≡ arcCount (s .args .arcs .now) = omega arith in
-    (r, pack-done q r (l .inv .3), omega arith)
+    (r, pack-done r q (l .inv .3), omega arith)
 
 pub pack-spec : {M : Type 1} → statement M
 pack-spec =
@@ -61,9 +52,9 @@ pack-spec =
     μ-loop
     loop-holds
     pack-arc-requires
-    add-i
-    loop-less
+    (λ c. omega arith)
+    (λ c. omega arith)
     loop-again
-    mul-result
+    (λ c. omega arith)
     same-length
     returns)

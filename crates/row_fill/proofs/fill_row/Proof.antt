@@ -1,4 +1,4 @@
--- `filling::fill_row` meets its contract: a row with no entry is sound, and no arc can cut it. Assumes nothing.
+-- `row_fill::fill_row` meets its contract: a row with no entry is sound, and no arc can cut it. Assumes nothing.
 use Prim.Native.Nat.{ℕ, _<_}
 use mathlib.Core.Path.{_≡_, ap, _∙_}
 use mathlib.Core.List.{List}
@@ -10,18 +10,6 @@ use borrow.Author.Needs.{needs}
 use Rattle.row_fill.proofs.fill_row.Statement.{statement}
 use Rattle.row_fill.proofs.fill_row.Tie as tie
 
-fill-requires : tie.Need-fill-requires
-fill-requires c κs = search needs
-
-shl-t12 : tie.Need-shl-t12
-shl-t12 c = search needs
-
-mend-row-requires : tie.Need-mend-row-requires
-mend-row-requires c κs = search needs
-
-same-length : tie.Need-same-length
-same-length c = search needs
-
 returns : tie.Need-returns
 returns c N S =
     let s = c .before .before .before .before .before .before .before .before .before .before .before .before in
@@ -32,4 +20,4 @@ returns c N S =
     (blank-mendable (s .args .cap) (s .args .arcs .now) (s .args .marks .now) (s .args .from) (f .last .0) (s .pre .0 .0) (s .pre .1 .1) (s .pre .1 .3) b)
 
 pub fill-row-spec : {M : Type 1} → statement M
-fill-row-spec = tie.close (tie.spec fill-requires shl-t12 mend-row-requires same-length returns)
+fill-row-spec = tie.close (tie.spec (λ c κs. search needs) (λ c. search needs) (λ c κs. search needs) (λ c. search needs) returns)

@@ -1,4 +1,4 @@
--- `filling::fill_rows` meets its contract. The loop's invariant: the rows before `i` hold least lengths, and the work from row `i` on is as it was. Assumes nothing.
+-- `row_fill::fill_rows` meets its contract. The loop's invariant: the rows before `i` hold least lengths, and the work from row `i` on is as it was. Assumes nothing.
 use mathlib.Core.Path.{_≡_, refl, sym, ap, _∙_, subst}
 use Prim.Native.Nat.{ℕ, _+_, _*_, _-_, _≤_}
 use native.Mathlib.Omega.{arith}
@@ -30,12 +30,6 @@ mul-at c = let s = c .before .before .before .before .before .before .before in 
 slice-aggregate-fill-row : tie.Need-slice-aggregate-fill-row Inv-loop μ-loop
 slice-aggregate-fill-row c = sym (c .before .before .before .chained .ensures .long)
 
-mul-fill-row : tie.Need-mul-fill-row Inv-loop μ-loop
-mul-fill-row c = omega arith
-
-shared-slice-read-fill-row : tie.Need-shared-slice-read-fill-row Inv-loop μ-loop
-shared-slice-read-fill-row c = omega arith
-
 add-fill-row : tie.Need-add-fill-row Inv-loop μ-loop
 add-fill-row c = let s = c .before .before .before .before .before .before .before .before .before in omega (arith, s .pre .1 .room)
 
@@ -64,12 +58,6 @@ fill-row-requires c κs =
         s .pre .2,
       ),
     )
-
-add-i : tie.Need-add-i Inv-loop μ-loop
-add-i c = omega arith
-
-loop-less : tie.Need-loop-less Inv-loop μ-loop
-loop-less c = omega arith
 
 loop-again : tie.Need-loop-again Inv-loop μ-loop
 loop-again c =
@@ -111,16 +99,16 @@ fill-rows-spec =
     loop-holds
     mul-at
     slice-aggregate-fill-row
-    mul-fill-row
-    shared-slice-read-fill-row
+    (λ c. omega arith)
+    (λ c. omega arith)
     add-fill-row
     mul-fill-row-2
     sub-fill-row
     part-fill-row-start
     part-fill-row-end
     fill-row-requires
-    add-i
-    loop-less
+    (λ c. omega arith)
+    (λ c. omega arith)
     loop-again
     same-length
     returns)

@@ -1,4 +1,4 @@
--- `filling::row_from` meets its contract: the packed arcs are the open ones of the graph. Assumes nothing.
+-- `row_fill::row_from` meets its contract: the packed arcs are the open ones of the graph. Assumes nothing.
 use mathlib.Core.Path.{refl, sym}
 use native.Mathlib.Omega.{arith}
 use lib.Seq.{length-take-le}
@@ -7,15 +7,6 @@ use Rattle.rows.specs.Net.{netOf}
 use borrow.Author.Needs.{needs}
 use Rattle.row_fill.proofs.row_from.Statement.{statement}
 use Rattle.row_fill.proofs.row_from.Tie as tie
-
-slice-aggregate-pack : tie.Need-slice-aggregate-pack
-slice-aggregate-pack c = search needs
-
-pack-requires : tie.Need-pack-requires
-pack-requires c κs = search needs
-
-array-share-prefix-packed : tie.Need-array-share-prefix-packed
-array-share-prefix-packed c = search needs
 
 slice-aggregate-chained : tie.Need-slice-aggregate-chained
 slice-aggregate-chained c = sym (length-take-le (c .before .before .pack .result) (c .before .before .pack .last .1 .1 .1 .0) (c .before .before .pack .ensures .0))
@@ -26,22 +17,13 @@ chained-requires c κs =
     let t = c .before .before .pack in
     (packed-joins (s .pre .0 .0) (t .ensures .1), omega (arith, length-take-le (t .result) (t .last .1 .1 .1 .0) (t .ensures .0), t .ensures .0, t .kept .1 .1 .1 .0))
 
-array-share-prefix-packed-2 : tie.Need-array-share-prefix-packed-2
-array-share-prefix-packed-2 c = search needs
-
 slice-aggregate-fill-row : tie.Need-slice-aggregate-fill-row
 slice-aggregate-fill-row c = sym (length-take-le (c .before .before .before .before .pack .result) (c .before .before .before .before .pack .last .1 .1 .1 .0) (c .before .before .before .before .pack .ensures .0))
-
-slice-aggregate-fill-row-2 : tie.Need-slice-aggregate-fill-row-2
-slice-aggregate-fill-row-2 c = search needs
 
 fill-row-requires : tie.Need-fill-row-requires
 fill-row-requires c κs =
     let s = c .before .before .before .before .before .before .before .before .before .before .before in
     ((packed-joins (s .pre .0 .0) (c .before .before .before .before .before .before .pack .ensures .1), c .before .before .before .chained .ensures), (s .pre .1 .0, omega (arith, s .pre .0 .0 .few), omega (arith, s .pre .0 .0 .marked), s .pre .1 .2))
-
-same-length : tie.Need-same-length
-same-length c = search needs
 
 returns : tie.Need-returns
 returns c =
@@ -53,14 +35,14 @@ pub row-from-spec : {M : Type 1} → statement M
 row-from-spec =
     tie.close
     (tie.spec
-    slice-aggregate-pack
-    pack-requires
-    array-share-prefix-packed
+    (λ c. search needs)
+    (λ c κs. search needs)
+    (λ c. search needs)
     slice-aggregate-chained
     chained-requires
-    array-share-prefix-packed-2
+    (λ c. search needs)
     slice-aggregate-fill-row
-    slice-aggregate-fill-row-2
+    (λ c. search needs)
     fill-row-requires
-    same-length
+    (λ c. search needs)
     returns)

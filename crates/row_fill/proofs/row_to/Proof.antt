@@ -1,4 +1,4 @@
--- `filling::row_to` meets its contract: a row from `to` over the exchanged arcs is a row to `to`, since reversed walks have the same lengths. Assumes nothing.
+-- `row_fill::row_to` meets its contract: a row from `to` over the exchanged arcs is a row to `to`, since reversed walks have the same lengths. Assumes nothing.
 use mathlib.Core.Path.{sym}
 use native.Mathlib.Omega.{arith}
 use lib.ListN.{length}
@@ -7,15 +7,6 @@ use Rattle.row_fill.proofs.TurnLaws.{turned-proper, row-to}
 use borrow.Author.Needs.{needs}
 use Rattle.row_fill.proofs.row_to.Statement.{statement}
 use Rattle.row_fill.proofs.row_to.Tie as tie
-
-slice-aggregate-turn : tie.Need-slice-aggregate-turn
-slice-aggregate-turn c = search needs
-
-turn-requires : tie.Need-turn-requires
-turn-requires c κs = search needs
-
-array-share-prefix-back : tie.Need-array-share-prefix-back
-array-share-prefix-back c = search needs
 
 slice-aggregate-row-from : tie.Need-slice-aggregate-row-from
 slice-aggregate-row-from c =
@@ -29,9 +20,6 @@ row-from-requires c κs =
     let t = c .before .before .before .turn in
     ((turned-proper (s .args .nodes) (s .args .arcs .now) (t .last .1 .0) (s .args .marks .now) (omega (arith, t .kept .1 .0)) (t .ensures) (s .pre .0 .0), rw (length-take-le (length (s .args .arcs .now)) (t .last .1 .0) (omega (arith, t .kept .1 .0))) (s .pre .0 .1)), s .pre .1)
 
-same-length : tie.Need-same-length
-same-length c = search needs
-
 returns : tie.Need-returns
 returns c =
     let s = c .before .before .before .before .before .before .before .before .before .before .before in
@@ -43,10 +31,10 @@ pub row-to-spec : {M : Type 1} → statement M
 row-to-spec =
     tie.close
     (tie.spec
-    slice-aggregate-turn
-    turn-requires
-    array-share-prefix-back
+    (λ c. search needs)
+    (λ c κs. search needs)
+    (λ c. search needs)
     slice-aggregate-row-from
     row-from-requires
-    same-length
+    (λ c. search needs)
     returns)

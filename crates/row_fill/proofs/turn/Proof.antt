@@ -1,4 +1,4 @@
--- `filling::turn` meets its contract. The loop's invariant: the arcs below `i` are exchanged. Assumes nothing.
+-- `row_fill::turn` meets its contract. The loop's invariant: the arcs below `i` are exchanged. Assumes nothing.
 use borrow.Author.Needs.{needs}
 use mathlib.Core.Path.{_≡_, refl, _∙_, subst}
 use Prim.Native.Nat.{ℕ, _-_, _/_, _≤_}
@@ -20,62 +20,11 @@ abbrev μ-loop : tie.MeasureT-loop
 loop-holds : tie.Need-loop-holds Inv-loop μ-loop
 loop-holds c = (omega arith, refl, λ k h. absurd (omega arith))
 
-mul-at : tie.Need-mul-at Inv-loop μ-loop
-mul-at c = search needs
-
-add-back : tie.Need-add-back Inv-loop μ-loop
-add-back c = search needs
-
-mul-back : tie.Need-mul-back Inv-loop μ-loop
-mul-back c = search needs
-
-shared-slice-read-back : tie.Need-shared-slice-read-back Inv-loop μ-loop
-shared-slice-read-back c = search needs
-
-mul-back-2 : tie.Need-mul-back-2 Inv-loop μ-loop
-mul-back-2 c = search needs
-
-slice-write-back : tie.Need-slice-write-back Inv-loop μ-loop
-slice-write-back c = search needs
-
-mul-back-3 : tie.Need-mul-back-3 Inv-loop μ-loop
-mul-back-3 c = search needs
-
-shared-slice-read-back-2 : tie.Need-shared-slice-read-back-2 Inv-loop μ-loop
-shared-slice-read-back-2 c = search needs
-
-add-back-2 : tie.Need-add-back-2 Inv-loop μ-loop
-add-back-2 c = search needs
-
-mul-back-4 : tie.Need-mul-back-4 Inv-loop μ-loop
-mul-back-4 c = search needs
-
 slice-write-back-2 : tie.Need-slice-write-back-2 Inv-loop μ-loop
 slice-write-back-2 c = simp length-set (omega arith)
 
-add-back-3 : tie.Need-add-back-3 Inv-loop μ-loop
-add-back-3 c = search needs
-
-mul-back-5 : tie.Need-mul-back-5 Inv-loop μ-loop
-mul-back-5 c = search needs
-
-shared-slice-read-back-3 : tie.Need-shared-slice-read-back-3 Inv-loop μ-loop
-shared-slice-read-back-3 c = search needs
-
-add-back-4 : tie.Need-add-back-4 Inv-loop μ-loop
-add-back-4 c = search needs
-
-mul-back-6 : tie.Need-mul-back-6 Inv-loop μ-loop
-mul-back-6 c = search needs
-
 slice-write-back-3 : tie.Need-slice-write-back-3 Inv-loop μ-loop
 slice-write-back-3 c = simp length-set (omega arith)
-
-add-i : tie.Need-add-i Inv-loop μ-loop
-add-i c = search needs
-
-loop-less : tie.Need-loop-less Inv-loop μ-loop
-loop-less c = search needs
 
 loop-again : tie.Need-loop-again Inv-loop μ-loop
 loop-again c =
@@ -103,25 +52,25 @@ turn-spec =
     Inv-loop
     μ-loop
     loop-holds
-    mul-at
-    add-back
-    mul-back
-    shared-slice-read-back
-    mul-back-2
-    slice-write-back
-    mul-back-3
-    shared-slice-read-back-2
-    add-back-2
-    mul-back-4
+    (λ c. search needs)
+    (λ c. search needs)
+    (λ c. search needs)
+    (λ c. search needs)
+    (λ c. search needs)
+    (λ c. search needs)
+    (λ c. search needs)
+    (λ c. search needs)
+    (λ c. search needs)
+    (λ c. search needs)
     slice-write-back-2
-    add-back-3
-    mul-back-5
-    shared-slice-read-back-3
-    add-back-4
-    mul-back-6
+    (λ c. search needs)
+    (λ c. search needs)
+    (λ c. search needs)
+    (λ c. search needs)
+    (λ c. search needs)
     slice-write-back-3
-    add-i
-    loop-less
+    (λ c. search needs)
+    (λ c. search needs)
     loop-again
     same-length
     returns)

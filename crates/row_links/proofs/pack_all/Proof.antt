@@ -1,24 +1,14 @@
--- `links::pack_all` meets its contract: the arcs are packed, and their chains written behind them. Assumes nothing.
+-- `row_links::pack_all` meets its contract: the arcs are packed, and their chains written behind them. Assumes nothing.
 use Prim.Native.Nat.{_*_, _/_, _≤_}
 use mathlib.Core.Path.{sym, _∙_}
 use native.Mathlib.Omega.{arith}
 use borrow.Author.Needs.{needs}
 use lib.ListN.{length}
 use lib.Seq.{length-take-le}
-use Rattle.row_arcs.proofs.PackLaws.{packed-joins}
+use Rattle.row_arcs.proofs.PackLaws.{packed-joins, packed-whole}
 use Rattle.row_links.proofs.LinkLaws.{linked}
-use Rattle.row_links.proofs.PackOpened.{packed-whole}
 use Rattle.row_links.proofs.pack_all.Statement.{statement}
 use Rattle.row_links.proofs.pack_all.Tie as tie
-
-pack-requires : tie.Need-pack-requires
-pack-requires c κs = search needs
-
-mul-n : tie.Need-mul-n
-mul-n c = search needs
-
-slice-reshare-prefix-chained : tie.Need-slice-reshare-prefix-chained
-slice-reshare-prefix-chained c = search needs
 
 slice-aggregate-chained : tie.Need-slice-aggregate-chained
 slice-aggregate-chained c =
@@ -32,15 +22,6 @@ chained-requires c κs =
     let h : t .result / 3 * 3 ≤ length (t .last .1 .1 .1 .0) = omega (arith, t .ensures .0) in
     (packed-joins (s .pre .0) (packed-whole _ (t .result) (t .ensures .0) (t .ensures .1)), omega (arith, length-take-le (t .result / 3 * 3) (t .last .1 .1 .1 .0) h, t .ensures .2, s .pre .1))
 
-slice-aggregate-put-chains : tie.Need-slice-aggregate-put-chains
-slice-aggregate-put-chains c = search needs
-
-put-chains-requires : tie.Need-put-chains-requires
-put-chains-requires c κs = search needs
-
-same-length : tie.Need-same-length
-same-length c = search needs
-
 returns : tie.Need-returns
 returns c =
     let s = c .before .before .before .before .before .before .before .before .before .before .before .before .before .before in
@@ -53,12 +34,12 @@ pub pack-all-spec : {M : Type 1} → statement M
 pack-all-spec =
     tie.close
     (tie.spec
-    pack-requires
-    mul-n
-    slice-reshare-prefix-chained
+    (λ c κs. search needs)
+    (λ c. search needs)
+    (λ c. search needs)
     slice-aggregate-chained
     chained-requires
-    slice-aggregate-put-chains
-    put-chains-requires
-    same-length
+    (λ c. search needs)
+    (λ c κs. search needs)
+    (λ c. search needs)
     returns)

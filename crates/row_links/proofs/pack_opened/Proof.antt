@@ -1,4 +1,4 @@
--- `links::pack_opened` meets its contract: an arc is put behind the others, and else the open arcs are packed anew. Assumes nothing.
+-- `row_links::pack_opened` meets its contract: an arc is put behind the others, and else the open arcs are packed anew. Assumes nothing.
 use native.Mathlib.Omega.{arith}
 use borrow.Author.Needs.{needs}
 use Rattle.row_links.proofs.LinkLaws.{link-anew}
@@ -8,23 +8,11 @@ use mathlib.Core.Logic.{⊎-elim}
 use Rattle.row_links.proofs.pack_opened.Statement.{statement}
 use Rattle.row_links.proofs.pack_opened.Tie as tie
 
-add-arc-requires : tie.Need-add-arc-requires
-add-arc-requires c κs = search needs
-
-same-length : tie.Need-same-length
-same-length c = search needs
-
 returns : tie.Need-returns
 returns c =
     let s = c .before .before .before .before .before .before .before .before .before in
     let q : s .args .nodes + (s .args .item - s .args .nodes) ≡ s .args .item = omega arith in
     rw q at (c .before .before .add-arc .ensures)
-
-pack-all-requires : tie.Need-pack-all-requires
-pack-all-requires c κs = search needs
-
-same-length-2 : tie.Need-same-length-2
-same-length-2 c = search needs
 
 returns-2 : tie.Need-returns-2
 returns-2 c = link-anew (⊎-elim (λ w h. omega arith) (λ w h. omega arith) (c .before .before .before .before .if1 .came)) (c .before .before .pack-all .ensures)
@@ -32,4 +20,4 @@ returns-2 c = link-anew (⊎-elim (λ w h. omega arith) (λ w h. omega arith) (c
 pub pack-opened-spec : {M : Type 1} → statement M
 pack-opened-spec =
     tie.close
-    (tie.spec add-arc-requires same-length returns pack-all-requires same-length-2 returns-2)
+    (tie.spec (λ c κs. search needs) (λ c. search needs) returns (λ c κs. search needs) (λ c. search needs) returns-2)

@@ -1,4 +1,4 @@
--- `links::put_chains` meets its contract. The loop's invariant: the first `i` numbers are written, and nothing before them is touched. Assumes nothing.
+-- `row_links::put_chains` meets its contract. The loop's invariant: the first `i` numbers are written, and nothing before them is touched. Assumes nothing.
 use Prim.Native.Nat.{ℕ, _+_, _-_, _≤_, _<_}
 use mathlib.Core.Path.{_≡_, refl, _∙_}
 use native.Mathlib.Omega.{arith}
@@ -16,27 +16,6 @@ abbrev μ-loop : tie.MeasureT-loop
 
 loop-holds : tie.Need-loop-holds Inv-loop μ-loop
 loop-holds c = (omega arith, refl, refl, λ k h. absurd (omega arith))
-
-mul-packed : tie.Need-mul-packed Inv-loop μ-loop
-mul-packed c = omega arith
-
-shared-slice-read-packed : tie.Need-shared-slice-read-packed Inv-loop μ-loop
-shared-slice-read-packed c = omega arith
-
-add-packed : tie.Need-add-packed Inv-loop μ-loop
-add-packed c = omega arith
-
-mul-packed-2 : tie.Need-mul-packed-2 Inv-loop μ-loop
-mul-packed-2 c = omega arith
-
-slice-write-packed : tie.Need-slice-write-packed Inv-loop μ-loop
-slice-write-packed c = omega arith
-
-add-i : tie.Need-add-i Inv-loop μ-loop
-add-i c = omega arith
-
-loop-less : tie.Need-loop-less Inv-loop μ-loop
-loop-less c = omega arith
 
 loop-again : tie.Need-loop-again Inv-loop μ-loop
 loop-again c =
@@ -66,13 +45,13 @@ put-chains-spec =
     Inv-loop
     μ-loop
     loop-holds
-    mul-packed
-    shared-slice-read-packed
-    add-packed
-    mul-packed-2
-    slice-write-packed
-    add-i
-    loop-less
+    (λ c. omega arith)
+    (λ c. omega arith)
+    (λ c. omega arith)
+    (λ c. omega arith)
+    (λ c. omega arith)
+    (λ c. omega arith)
+    (λ c. omega arith)
     loop-again
     same-length
     returns)

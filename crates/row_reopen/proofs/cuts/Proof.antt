@@ -1,30 +1,15 @@
--- `reopen::cuts` meets its contract: each test that leads to `false` shows that the arc can cut nothing, and the last one that it can. Assumes nothing.
+-- `row_reopen::cuts` meets its contract: each test that leads to `false` shows that the arc can cut nothing, and the last one that it can. Assumes nothing.
 use mathlib.Core.Bool.{true≢false, false≢true}
 use native.Mathlib.Omega.{arith}
 use borrow.Author.Needs.{needs}
 use Rattle.row_reopen.proofs.cuts.Statement.{statement}
 use Rattle.row_reopen.proofs.cuts.Tie as tie
 
-mul-d : tie.Need-mul-d
-mul-d c = search needs
-
-shared-slice-read-d : tie.Need-shared-slice-read-d
-shared-slice-read-d c = search needs
-
 returns : tie.Need-returns
 returns c = (λ q k. absurd (omega arith), λ q. absurd (false≢true q))
 
 returns-2 : tie.Need-returns-2
 returns-2 c = (λ q k. absurd (omega arith), λ q. absurd (false≢true q))
-
-add-if3 : tie.Need-add-if3
-add-if3 c = search needs
-
-mul-if3 : tie.Need-mul-if3
-mul-if3 c = search needs
-
-shared-slice-read-if3 : tie.Need-shared-slice-read-if3
-shared-slice-read-if3 c = search needs
 
 returns-3 : tie.Need-returns-3
 returns-3 c = (λ q. absurd (true≢false q), λ q t. absurd (omega (arith, t (omega arith))))
@@ -36,12 +21,12 @@ pub cuts-spec : {M : Type 1} → statement M
 cuts-spec =
     tie.close
     (tie.spec
-    mul-d
-    shared-slice-read-d
+    (λ c. search needs)
+    (λ c. search needs)
     returns
     returns-2
-    add-if3
-    mul-if3
-    shared-slice-read-if3
+    (λ c. search needs)
+    (λ c. search needs)
+    (λ c. search needs)
     returns-3
     returns-4)

@@ -1,4 +1,4 @@
--- `reopen::mend_kept` meets its contract: a row of which the arc can cut no entry is left, and else it is kept before it is mended. Assumes nothing.
+-- `row_reopen::mend_kept` meets its contract: a row of which the arc can cut no entry is left, and else it is kept before it is mended. Assumes nothing.
 use Prim.Native.Nat.{ℕ, _+_, _*_, _-_}
 use mathlib.Core.Path.{_≡_, sym, ap, _∙_}
 use native.Mathlib.Omega.{arith}
@@ -17,30 +17,6 @@ use Rattle.row_reopen.proofs.mend_kept.Tie as tie
 all-behind : (packed : List ℕ) → take (length packed - 1536) (drop 1536 packed) ≡ drop 1536 packed
 all-behind packed = take-all (length packed - 1536) (drop 1536 packed) (omega (arith, length-drop 1536 packed))
 
-mul-at : tie.Need-mul-at
-mul-at c = search needs
-
-add-may-cut : tie.Need-add-may-cut
-add-may-cut c = search needs
-
-mul-may-cut : tie.Need-mul-may-cut
-mul-may-cut c = search needs
-
-sub-may-cut : tie.Need-sub-may-cut
-sub-may-cut c = search needs
-
-part-may-cut-start : tie.Need-part-may-cut-start
-part-may-cut-start c = search needs
-
-part-may-cut-end : tie.Need-part-may-cut-end
-part-may-cut-end c = search needs
-
-may-cut-requires : tie.Need-may-cut-requires
-may-cut-requires c κs = search needs
-
-same-length : tie.Need-same-length
-same-length c = search needs
-
 returns : tie.Need-returns
 returns c =
     let s = c .before .before .before .before .before .before .before in
@@ -49,38 +25,8 @@ returns c =
     let f = t .0 (not-true _ (c .if1 .taken)) in
     (left (f .0) (f .1), λ N A h M k. k (f .0) (f .1))
 
-keep-row-requires : tie.Need-keep-row-requires
-keep-row-requires c κs = search needs
-
-mul-n : tie.Need-mul-n
-mul-n c = search needs
-
 slice-aggregate-mend-row : tie.Need-slice-aggregate-mend-row
 slice-aggregate-mend-row c = let s = c .before .before .before .before .before .before .before .before .before .before .before .before .before in sym (length-take-le (s .args .row .count * 3) (s .args .packed .now) (omega (arith, s .pre .0 .0 .room, s .pre .0 .0 .long)))
-
-sub-mend-row : tie.Need-sub-mend-row
-sub-mend-row c = search needs
-
-part-mend-row-start : tie.Need-part-mend-row-start
-part-mend-row-start c = search needs
-
-part-mend-row-end : tie.Need-part-mend-row-end
-part-mend-row-end c = search needs
-
-add-mend-row : tie.Need-add-mend-row
-add-mend-row c = search needs
-
-mul-mend-row : tie.Need-mul-mend-row
-mul-mend-row c = search needs
-
-sub-mend-row-2 : tie.Need-sub-mend-row-2
-sub-mend-row-2 c = search needs
-
-part-mend-row-start-2 : tie.Need-part-mend-row-start-2
-part-mend-row-start-2 c = search needs
-
-part-mend-row-end-2 : tie.Need-part-mend-row-end-2
-part-mend-row-end-2 c = search needs
 
 mend-row-requires : tie.Need-mend-row-requires
 mend-row-requires c κs =
@@ -91,12 +37,6 @@ mend-row-requires c κs =
       (s .pre .0 .0 .joins, rw (all-behind packed) (s .pre .0 .0 .chained)),
       (mid-len (i * 64) (i * 64 + 64) mid (omega (arith, c .before .before .before .before .before .before .keep-row .kept .0)) ∙ omega arith, s .pre .1 .0, s .pre .1 .1, s .pre .1 .2),
     )
-
-shl-result : tie.Need-shl-result
-shl-result c = search needs
-
-same-length-2 : tie.Need-same-length-2
-same-length-2 c = search needs
 
 returns-2 : tie.Need-returns-2
 returns-2 c =
@@ -123,27 +63,27 @@ pub mend-kept-spec : {M : Type 1} → statement M
 mend-kept-spec =
     tie.close
     (tie.spec
-    mul-at
-    add-may-cut
-    mul-may-cut
-    sub-may-cut
-    part-may-cut-start
-    part-may-cut-end
-    may-cut-requires
-    same-length
+    (λ c. search needs)
+    (λ c. search needs)
+    (λ c. search needs)
+    (λ c. search needs)
+    (λ c. search needs)
+    (λ c. search needs)
+    (λ c κs. search needs)
+    (λ c. search needs)
     returns
-    keep-row-requires
-    mul-n
+    (λ c κs. search needs)
+    (λ c. search needs)
     slice-aggregate-mend-row
-    sub-mend-row
-    part-mend-row-start
-    part-mend-row-end
-    add-mend-row
-    mul-mend-row
-    sub-mend-row-2
-    part-mend-row-start-2
-    part-mend-row-end-2
+    (λ c. search needs)
+    (λ c. search needs)
+    (λ c. search needs)
+    (λ c. search needs)
+    (λ c. search needs)
+    (λ c. search needs)
+    (λ c. search needs)
+    (λ c. search needs)
     mend-row-requires
-    shl-result
-    same-length-2
+    (λ c. search needs)
+    (λ c. search needs)
     returns-2)

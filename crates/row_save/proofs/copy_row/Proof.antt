@@ -1,4 +1,4 @@
--- `kept::copy_row` meets its contract. The loop's invariant: the first `v` numbers are copied. Assumes nothing.
+-- `row_save::copy_row` meets its contract. The loop's invariant: the first `v` numbers are copied. Assumes nothing.
 use Prim.Native.Nat.{_-_, _≤_}
 use mathlib.Core.Path.{_≡_, refl}
 use native.Mathlib.Omega.{arith}
@@ -15,30 +15,6 @@ abbrev μ-loop : tie.MeasureT-loop
 
 loop-holds : tie.Need-loop-holds Inv-loop μ-loop
 loop-holds c = (omega arith, refl, copy-begun _ _ _)
-
-add-work : tie.Need-add-work Inv-loop μ-loop
-add-work c = omega arith
-
-mul-work : tie.Need-mul-work Inv-loop μ-loop
-mul-work c = omega arith
-
-slice-read-work : tie.Need-slice-read-work Inv-loop μ-loop
-slice-read-work c = omega arith
-
-add-work-2 : tie.Need-add-work-2 Inv-loop μ-loop
-add-work-2 c = omega arith
-
-mul-work-2 : tie.Need-mul-work-2 Inv-loop μ-loop
-mul-work-2 c = omega arith
-
-slice-write-work : tie.Need-slice-write-work Inv-loop μ-loop
-slice-write-work c = omega arith
-
-add-v : tie.Need-add-v Inv-loop μ-loop
-add-v c = omega arith
-
-loop-less : tie.Need-loop-less Inv-loop μ-loop
-loop-less c = omega arith
 
 loop-again : tie.Need-loop-again Inv-loop μ-loop
 loop-again c =
@@ -59,14 +35,14 @@ copy-row-spec =
     Inv-loop
     μ-loop
     loop-holds
-    add-work
-    mul-work
-    slice-read-work
-    add-work-2
-    mul-work-2
-    slice-write-work
-    add-v
-    loop-less
+    (λ c. omega arith)
+    (λ c. omega arith)
+    (λ c. omega arith)
+    (λ c. omega arith)
+    (λ c. omega arith)
+    (λ c. omega arith)
+    (λ c. omega arith)
+    (λ c. omega arith)
     loop-again
     same-length
     returns)

@@ -1,4 +1,4 @@
--- `kept::moved` meets its contract. The loop's invariant: those of the rows below `i` that are kept have the same entries where they matter. Assumes nothing.
+-- `row_save::moved` meets its contract. The loop's invariant: those of the rows below `i` that are kept have the same entries where they matter. Assumes nothing.
 use Prim.Native.Nat.{_-_, _≤_}
 use mathlib.Core.Path.{_≡_}
 use mathlib.Core.Bool.{true≢false, false≢true}
@@ -23,12 +23,6 @@ kept-moved-requires c κs = let s = c .before .before .before in (s .pre .0, ome
 returns : tie.Need-returns Inv-loop μ-loop
 returns c = (λ q. absurd (true≢false q), λ q. let m = c .before .kept-moved .ensures .1 (c .if1 .taken) in (c .before .before .before .loop .i, omega arith, m .0, m .1))
 
-add-i : tie.Need-add-i Inv-loop μ-loop
-add-i c = omega arith
-
-loop-less : tie.Need-loop-less Inv-loop μ-loop
-loop-less c = omega arith
-
 loop-again : tie.Need-loop-again Inv-loop μ-loop
 loop-again c = (omega arith, below-more _ _ (c .before .before .before .loop .inv .1) (c .before .kept-moved .ensures .0 (c .if1 .left)))
 
@@ -46,7 +40,7 @@ moved-spec =
     loop-holds
     kept-moved-requires
     returns
-    add-i
-    loop-less
+    (λ c. omega arith)
+    (λ c. omega arith)
     loop-again
     returns-2)

@@ -1,4 +1,4 @@
--- `kept::put_back` meets its contract. The loop's invariant: the kept ones of the rows below `i` are back. Assumes nothing.
+-- `row_save::put_back` meets its contract. The loop's invariant: the kept ones of the rows below `i` are back. Assumes nothing.
 use Prim.Native.Nat.{_-_, _≤_}
 use mathlib.Core.Path.{_≡_, refl, _∙_}
 use native.Mathlib.Omega.{arith}
@@ -19,12 +19,6 @@ loop-holds c = (omega arith, refl, back-begun _ _)
 
 put-row-back-requires : tie.Need-put-row-back-requires Inv-loop μ-loop
 put-row-back-requires c κs = (omega arith, c .before .before .loop .inv .1 ∙ c .before .before .before .before .pre .1)
-
-add-i : tie.Need-add-i Inv-loop μ-loop
-add-i c = omega arith
-
-loop-less : tie.Need-loop-less Inv-loop μ-loop
-loop-less c = omega arith
 
 loop-again : tie.Need-loop-again Inv-loop μ-loop
 loop-again c =
@@ -48,8 +42,8 @@ put-back-spec =
     μ-loop
     loop-holds
     put-row-back-requires
-    add-i
-    loop-less
+    (λ c. omega arith)
+    (λ c. omega arith)
     loop-again
     same-length
     returns)

@@ -1,4 +1,4 @@
--- `kept::put_row_back` meets its contract: a row lies before all kept rows, and a bit that is 1 is not 0. Assumes nothing.
+-- `row_save::put_row_back` meets its contract: a row lies before all kept rows, and a bit that is 1 is not 0. Assumes nothing.
 use mathlib.Core.Path.{_≡_, refl, sym, _∙_}
 use mathlib.Core.Logic.{inr}
 use native.Mathlib.Omega.{arith}
@@ -8,20 +8,8 @@ use Rattle.rows.specs.Bits.{bitOf}
 use Rattle.row_save.proofs.put_row_back.Statement.{statement}
 use Rattle.row_save.proofs.put_row_back.Tie as tie
 
-is-kept-requires : tie.Need-is-kept-requires
-is-kept-requires c κs = search needs
-
-mul-at : tie.Need-mul-at
-mul-at c = search needs
-
-add-copy-row : tie.Need-add-copy-row
-add-copy-row c = search needs
-
 copy-row-requires : tie.Need-copy-row-requires
 copy-row-requires c κs = (omega arith, omega arith, inr (omega arith))
-
-same-length : tie.Need-same-length
-same-length c = search needs
 
 returns : tie.Need-returns
 returns c =
@@ -37,4 +25,4 @@ returns-2 c =
 pub put-row-back-spec : {M : Type 1} → statement M
 put-row-back-spec =
     tie.close
-    (tie.spec is-kept-requires mul-at add-copy-row copy-row-requires same-length returns returns-2)
+    (tie.spec (λ c κs. search needs) (λ c. search needs) (λ c. search needs) copy-row-requires (λ c. search needs) returns returns-2)

@@ -1,4 +1,4 @@
--- `kept::row_moved` meets its contract. The loop's invariant: the entries at the target and where the goals below `j` are entered are as kept. Assumes nothing.
+-- `row_save::row_moved` meets its contract. The loop's invariant: the entries at the target and where the goals below `j` are entered are as kept. Assumes nothing.
 use Prim.Native.Nat.{ℕ, _+_, _-_, _≤_, _<_}
 use mathlib.Core.Bool.{true≢false, false≢true}
 use native.Mathlib.Omega.{arith}
@@ -14,47 +14,14 @@ Inv-loop work row count to at j₀ j = (j ≤ count) × Stays work row to × ((k
 abbrev μ-loop : tie.MeasureT-loop
 μ-loop work row count to at j₀ j = count - j
 
-mul-at : tie.Need-mul-at Inv-loop μ-loop
-mul-at c = omega arith
-
-add-if1 : tie.Need-add-if1 Inv-loop μ-loop
-add-if1 c = omega arith
-
-add-if1-2 : tie.Need-add-if1-2 Inv-loop μ-loop
-add-if1-2 c = omega arith
-
-mul-if1 : tie.Need-mul-if1 Inv-loop μ-loop
-mul-if1 c = omega arith
-
-shared-slice-read-if1 : tie.Need-shared-slice-read-if1 Inv-loop μ-loop
-shared-slice-read-if1 c = omega arith
-
-add-if1-3 : tie.Need-add-if1-3 Inv-loop μ-loop
-add-if1-3 c = omega arith
-
-mul-if1-2 : tie.Need-mul-if1-2 Inv-loop μ-loop
-mul-if1-2 c = omega arith
-
-shared-slice-read-if1-2 : tie.Need-shared-slice-read-if1-2 Inv-loop μ-loop
-shared-slice-read-if1-2 c = omega arith
-
 returns : tie.Need-returns Inv-loop μ-loop
 returns c = (λ q. absurd (true≢false q), λ q U. c .if1 .taken (U .target))
 
 loop-holds : tie.Need-loop-holds Inv-loop μ-loop
 loop-holds c = (omega arith, c .if1 .left, λ k h. absurd (omega arith))
 
-add-v : tie.Need-add-v Inv-loop μ-loop
-add-v c = omega arith
-
-mul-v : tie.Need-mul-v Inv-loop μ-loop
-mul-v c = omega arith
-
-shared-slice-read-v : tie.Need-shared-slice-read-v Inv-loop μ-loop
-shared-slice-read-v c = omega arith
-
-cast-v : tie.Need-cast-v Inv-loop μ-loop
-cast-v c = omega (arith, c .before .before .before .before .before .before .pre .4 (c .before .before .loop .j) (c .before .loop-test .taken))
+cast-node : tie.Need-cast-node Inv-loop μ-loop
+cast-node c = omega (arith, c .before .before .before .before .before .before .pre .4 (c .before .before .loop .j) (c .before .loop-test .taken))
 
 add-if2 : tie.Need-add-if2 Inv-loop μ-loop
 add-if2 c = omega (arith, c .before .before .before .before .before .before .pre .4 (c .before .before .loop .j) (c .before .loop-test .taken))
@@ -80,12 +47,6 @@ shared-slice-read-if2-2 c = omega (arith, c .before .before .before .before .bef
 returns-2 : tie.Need-returns-2 Inv-loop μ-loop
 returns-2 c = (λ q. absurd (true≢false q), λ q U. c .if2 .taken (U .goals (c .before .before .before .before .before .loop .j) (omega arith)))
 
-add-j : tie.Need-add-j Inv-loop μ-loop
-add-j c = omega arith
-
-loop-less : tie.Need-loop-less Inv-loop μ-loop
-loop-less c = omega arith
-
 loop-again : tie.Need-loop-again Inv-loop μ-loop
 loop-again c = (omega arith, c .before .before .before .before .before .loop .inv .1, below-more _ _ (c .before .before .before .before .before .loop .inv .2) (c .if2 .left))
 
@@ -98,20 +59,20 @@ row-moved-spec =
     (tie.spec
     Inv-loop
     μ-loop
-    mul-at
-    add-if1
-    add-if1-2
-    mul-if1
-    shared-slice-read-if1
-    add-if1-3
-    mul-if1-2
-    shared-slice-read-if1-2
+    (λ c. omega arith)
+    (λ c. omega arith)
+    (λ c. omega arith)
+    (λ c. omega arith)
+    (λ c. omega arith)
+    (λ c. omega arith)
+    (λ c. omega arith)
+    (λ c. omega arith)
     returns
     loop-holds
-    add-v
-    mul-v
-    shared-slice-read-v
-    cast-v
+    (λ c. omega arith)
+    (λ c. omega arith)
+    (λ c. omega arith)
+    cast-node
     add-if2
     add-if2-2
     mul-if2
@@ -120,7 +81,7 @@ row-moved-spec =
     mul-if2-2
     shared-slice-read-if2-2
     returns-2
-    add-j
-    loop-less
+    (λ c. omega arith)
+    (λ c. omega arith)
     loop-again
     returns-3)

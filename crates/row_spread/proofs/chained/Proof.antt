@@ -1,4 +1,4 @@
--- `spread::chained` meets its contract. The loop's invariant: the arcs below `i` are chained. Assumes nothing.
+-- `row_spread::chained` meets its contract. The loop's invariant: the arcs below `i` are chained. Assumes nothing.
 use Prim.Native.Nat.{_-_, _≤_, _<_}
 use mathlib.Core.Path.{_≡_}
 use native.Mathlib.Omega.{arith}
@@ -17,15 +17,6 @@ abbrev μ-loop : tie.MeasureT-loop
 loop-holds : tie.Need-loop-holds Inv-loop μ-loop
 loop-holds c = (omega arith, chain-begun _)
 
-mul-tail : tie.Need-mul-tail Inv-loop μ-loop
-mul-tail c = omega arith
-
-mul-tail-2 : tie.Need-mul-tail-2 Inv-loop μ-loop
-mul-tail-2 c = omega arith
-
-shared-slice-read-tail : tie.Need-shared-slice-read-tail Inv-loop μ-loop
-shared-slice-read-tail c = omega arith
-
 cast-tail : tie.Need-cast-tail Inv-loop μ-loop
 cast-tail c = let s = c .before .before .before in omega (arith, s .pre .0 (c .before .before .loop .i) (c .before .loop-test .taken) .0)
 
@@ -34,12 +25,6 @@ mul-chains c = let s = c .before .before .before in omega (arith, s .pre .0 (c .
 
 array-read-chains : tie.Need-array-read-chains Inv-loop μ-loop
 array-read-chains c = let s = c .before .before .before in omega (arith, s .pre .0 (c .before .before .loop .i) (c .before .loop-test .taken) .0, c .before .before .loop .inv .1 .long)
-
-add-chains : tie.Need-add-chains Inv-loop μ-loop
-add-chains c = omega arith
-
-mul-chains-2 : tie.Need-mul-chains-2 Inv-loop μ-loop
-mul-chains-2 c = omega arith
 
 array-write-chains : tie.Need-array-write-chains Inv-loop μ-loop
 array-write-chains c = let s = c .before .before .before in omega (arith, c .before .before .loop .inv .1 .long, s .pre .1)
@@ -55,12 +40,6 @@ mul-chains-3 c = let s = c .before .before .before in omega (arith, s .pre .0 (c
 
 array-write-chains-2 : tie.Need-array-write-chains-2 Inv-loop μ-loop
 array-write-chains-2 c = let s = c .before .before .before in omega (arith, s .pre .0 (c .before .before .loop .i) (c .before .loop-test .taken) .0)
-
-add-i : tie.Need-add-i Inv-loop μ-loop
-add-i c = omega arith
-
-loop-less : tie.Need-loop-less Inv-loop μ-loop
-loop-less c = omega arith
 
 loop-again : tie.Need-loop-again Inv-loop μ-loop
 loop-again c =
@@ -82,20 +61,20 @@ chained-spec =
     Inv-loop
     μ-loop
     loop-holds
-    mul-tail
-    mul-tail-2
-    shared-slice-read-tail
+    (λ c. omega arith)
+    (λ c. omega arith)
+    (λ c. omega arith)
     cast-tail
     mul-chains
     array-read-chains
-    add-chains
-    mul-chains-2
+    (λ c. omega arith)
+    (λ c. omega arith)
     array-write-chains
     cast-chains
     add-chains-2
     mul-chains-3
     array-write-chains-2
-    add-i
-    loop-less
+    (λ c. omega arith)
+    (λ c. omega arith)
     loop-again
     returns)

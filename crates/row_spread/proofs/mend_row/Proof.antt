@@ -1,4 +1,4 @@
--- `spread::mend_row` meets its contract: a sound row whose start is set is good, stays so as arcs are tried, and with no active node left it is
+-- `row_spread::mend_row` meets its contract: a sound row whose start is set is good, stays so as arcs are tried, and with no active node left it is
 -- settled, so that it holds the least lengths. Assumes nothing.
 use native.Mathlib.Omega.{arith}
 use Rattle.rows.proofs.RowLaws.{started, row-is}
@@ -7,23 +7,14 @@ use borrow.Author.Needs.{needs}
 use Rattle.row_spread.proofs.mend_row.Statement.{statement}
 use Rattle.row_spread.proofs.mend_row.Tie as tie
 
-start-requires : tie.Need-start-requires
-start-requires c κs = search needs
-
-spread-active-requires : tie.Need-spread-active-requires
-spread-active-requires c κs = search needs
-
-same-length : tie.Need-same-length
-same-length c = search needs
-
 returns : tie.Need-returns
 returns c N S h M =
     let s = c .before .before .before .before .before .before .before .before .before .before .before .before in
     let b = c .before .before .before .before .before .before .start in
     let t = c .before .before .spread-active in
-    let g = started (s .args .marks .now) (s .args .m .from) (s .args .row .now) (b .last .1 .1 .0) (b .ensures) S (s .args .m .cap) (s .pre .1 .0) h in
-    row-is N (s .args .m .cap) (s .args .arcs .now) (t .last .1 .1 .0) (S .packed) (t .ensures .1 (mend-begun M (omega arith) (b .ensures)))
-    (s .args .m .from) (s .pre .1 .3) (t .ensures .0 N (s .args .m .from) (S .proper) (S .packed) g)
+    let g = started (s .args .marks .now) (s .args .mend .from) (s .args .row .now) (b .last .1 .1 .0) (b .ensures) S (s .args .mend .cap) (s .pre .1 .0) h in
+    row-is N (s .args .mend .cap) (s .args .arcs .now) (t .last .1 .1 .0) (S .packed) (t .ensures .1 (mend-begun M (omega arith) (b .ensures)))
+    (s .args .mend .from) (s .pre .1 .3) (t .ensures .0 N (s .args .mend .from) (S .proper) (S .packed) g)
 
 pub mend-row-spec : {M : Type 1} → statement M
-mend-row-spec = tie.close (tie.spec start-requires spread-active-requires same-length returns)
+mend-row-spec = tie.close (tie.spec (λ c κs. search needs) (λ c κs. search needs) (λ c. search needs) returns)

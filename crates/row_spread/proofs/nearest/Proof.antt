@@ -1,4 +1,4 @@
--- `spread::nearest` meets its contract. The loop's invariant: `best` has the least entry of the active nodes that are not in `rest`, which loses its
+-- `row_spread::nearest` meets its contract. The loop's invariant: `best` has the least entry of the active nodes that are not in `rest`, which loses its
 -- lowest node each time. Assumes nothing.
 use Prim.Native.Nat.{_-_, _^_, _<_}
 use mathlib.Core.Logic.{⊎-elim}
@@ -18,14 +18,11 @@ abbrev μ-loop : tie.MeasureT-loop
 cast-best : tie.Need-cast-best Inv-loop μ-loop
 cast-best c = omega (arith, lowest-small (c .args .active) (c .pre .1) (omega arith))
 
-sub-rest : tie.Need-sub-rest Inv-loop μ-loop
-sub-rest c = omega arith
-
 loop-holds : tie.Need-loop-holds Inv-loop μ-loop
 loop-holds c = seen-begun (c .args .row .now) (c .args .active) (c .pre .1) (omega arith)
 
-cast-u : tie.Need-cast-u Inv-loop μ-loop
-cast-u c = let l = c .before .loop in omega (arith, lowest-small (l .rest) (omega arith) (omega arith))
+cast-node : tie.Need-cast-node Inv-loop μ-loop
+cast-node c = let l = c .before .loop in omega (arith, lowest-small (l .rest) (omega arith) (omega arith))
 
 mul-if1 : tie.Need-mul-if1 Inv-loop μ-loop
 mul-if1 c = let l = c .before .loop in omega (arith, lowest-small (l .rest) (omega arith) (omega arith))
@@ -38,9 +35,6 @@ mul-if1-2 c = omega (arith, c .before .before .loop .inv .node)
 
 shared-slice-read-if1-2 : tie.Need-shared-slice-read-if1-2 Inv-loop μ-loop
 shared-slice-read-if1-2 c = omega (arith, c .before .before .before .loop .inv .node)
-
-sub-rest-2 : tie.Need-sub-rest-2 Inv-loop μ-loop
-sub-rest-2 c = omega arith
 
 loop-less : tie.Need-loop-less Inv-loop μ-loop
 loop-less c = let l = c .before .before .before .before .loop in omega (arith, and-le-r (l .rest) (l .rest - 1))
@@ -63,14 +57,14 @@ nearest-spec =
     Inv-loop
     μ-loop
     cast-best
-    sub-rest
+    (λ c. omega arith)
     loop-holds
-    cast-u
+    cast-node
     mul-if1
     shared-slice-read-if1
     mul-if1-2
     shared-slice-read-if1-2
-    sub-rest-2
+    (λ c. omega arith)
     loop-less
     loop-again
     returns)

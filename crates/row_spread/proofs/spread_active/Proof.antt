@@ -1,4 +1,4 @@
--- `spread::spread_active` meets its contract. The loop's invariant: an arc whose tail is not active can cut no entry. The measure is the sum of the
+-- `row_spread::spread_active` meets its contract. The loop's invariant: an arc whose tail is not active can cut no entry. The measure is the sum of the
 -- row's entries, 65 times, and how many nodes are active: a turn that cuts no entry takes one off. Assumes nothing.
 use Prim.Native.Nat.{_+_, _*_}
 use mathlib.Core.Path.{_≡_, refl, _∙_}

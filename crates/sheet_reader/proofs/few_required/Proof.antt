@@ -27,7 +27,7 @@ required-nodes-requires : tie.Need-required-nodes-requires
 required-nodes-requires c κs = simp length-take (omega arith)
 
 returns : tie.Need-returns
-returns c = ap (λ (k : ℕ). leb k 8) (c .before .required-nodes .ensures .0)
+returns c = ap (λ (k : ℕ). leb k 8) (c .before .required-nodes .ensures .counted)
 
 pub few-required-spec : {M : Type 1} → statement M
 few-required-spec =

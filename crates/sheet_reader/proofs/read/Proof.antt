@@ -2,6 +2,7 @@
 use borrow.Author.Needs.{needs}
 use mathlib.Core.Path.{ap, sym, subst, _∙_}
 use Rattle.sheet_parts.specs.Sections.{headerIn, HeaderFits}
+use Rattle.sheet_reader.proofs.LoadedLaws.{read-as}
 use Rattle.sheet_reader.proofs.TakenLaws.{header-refused, header-read, part-all}
 use Rattle.sheet_reader.proofs.read.Statement.{statement}
 use Rattle.sheet_reader.proofs.read.Tie as tie
@@ -40,11 +41,14 @@ returns c =
     let s = c .before .before .before .before .before .before .before .before .before .before .before .before .before .before .before .args .sheet .now in
     let e = part-all s (c .before .before .before .before .before .before .before .before .before .header .given .0 .1 .0) in
     let w = c .before .before .before .before .read-behind .ensures in
-    header-read _ _ _ (ap (headerIn _) (sym (c .before .before .before .before .before .before .before .before .before .header .given .1)) ∙ c .before .before .before .before .before .before .before .before .before .before .before .header-of .ensures .0)
-    (rw e at (w .0)) (rw e at (w .1 .0)) (rw e at (w .1 .1))
+    let h = header-read _ _ _ (ap (headerIn _) (sym (c .before .before .before .before .before .before .before .before .before .header .given .1)) ∙ c .before .before .before .before .before .before .before .before .before .before .before .header-of .ensures .0)
+    (rw e at (w .0)) (rw e at (w .1 .0)) (rw e at (w .1 .1)) in
+    (h .0, (h .1 .0, (h .1 .1, read-as _ _ _ _ _ _ (h .0) (h .1 .0) (h .1 .1))))
 
 returns-2 : tie.Need-returns-2
-returns-2 c = header-refused _ _ _ (ap (headerIn _) (sym (c .before .why .given .1)) ∙ c .before .before .before .header-of .ensures .0)
+returns-2 c =
+    let h = header-refused _ _ _ (ap (headerIn _) (sym (c .before .why .given .1)) ∙ c .before .before .before .header-of .ensures .0) in
+    (h .0, (h .1 .0, (h .1 .1, read-as _ _ _ _ _ _ (h .0) (h .1 .0) (h .1 .1))))
 
 pub read-spec : {M : Type 1} → statement M
 read-spec =

@@ -11,10 +11,10 @@ use Rattle.sheet_required.proofs.required_nodes.Statement.{statement}
 use Rattle.sheet_required.proofs.required_nodes.Tie as tie
 
 abbrev Inv-loop : tie.InvT-loop
-Inv-loop header arcs marks nodes₀ ends count₀ p₀ nodes count p = Listing (isRequired (sheetOf header arcs marks)) (header .nodes) nodes₀ nodes count p
+Inv-loop header arcs marks list₀ ends count₀ p₀ list count p = Listing (isRequired (sheetOf header arcs marks)) (header .nodes) list₀ list count p
 
 abbrev μ-loop : tie.MeasureT-loop
-μ-loop header arcs marks nodes₀ ends count₀ p₀ nodes count p = header .nodes - p
+μ-loop header arcs marks list₀ ends count₀ p₀ list count p = header .nodes - p
 
 ends-of-requires : tie.Need-ends-of-requires Inv-loop μ-loop
 ends-of-requires c κs = search needs
@@ -31,14 +31,11 @@ array-read-is-required c = omega (arith, c .before .before .before .before .ends
 is-required-requires : tie.Need-is-required-requires Inv-loop μ-loop
 is-required-requires c κs = search needs
 
-mul-nodes : tie.Need-mul-nodes Inv-loop μ-loop
-mul-nodes c = omega arith
-
-slice-write-nodes : tie.Need-slice-write-nodes Inv-loop μ-loop
-slice-write-nodes c = omega (arith, listed-size (c .before .before .before .before .before .loop .inv) (omega arith), c .before .before .before .before .before .loop .inv .small)
+note-node-requires : tie.Need-note-node-requires Inv-loop μ-loop
+note-node-requires c κs = search needs
 
 add-count : tie.Need-add-count Inv-loop μ-loop
-add-count c = omega (arith, c .before .before .before .before .before .loop .inv .small)
+add-count c = omega (arith, c .before .before .before .before .before .before .before .before .before .loop .inv .small)
 
 add-p : tie.Need-add-p Inv-loop μ-loop
 add-p c = omega arith
@@ -52,12 +49,12 @@ loop-again c =
     let w = c .before .before .before .before .before .loop .inv in
     let e = c .before .is-required .ensures ∙ required-by (a .header) (a .arcs .now) (a .marks .now) (c .before .before .before .before .before .before .ends-of .ensures) (c .before .before .before .before .before .loop .p) (omega arith) in
     ⊎-elim
-    (λ k. rw (k .1, k .2) (list-more w (omega arith) (c .before .before .before .if1 .taken) (sym e ∙ k .0 .taken)))
+    (λ k. rw (k .5, k .6, k .2 .ensures) (list-more w (c .before .before .before .if1 .taken) (sym e ∙ k .0 .taken)))
     (λ k. rw (k .1, k .2) (list-pass w (c .before .before .before .if1 .taken) (sym e ∙ k .0 .left)))
     (c .if2 .came)
 
 same-length : tie.Need-same-length Inv-loop μ-loop
-same-length c = listed-size (c .before .before .loop .inv) (omega arith)
+same-length c = listed-size (c .before .before .loop .inv)
 
 returns : tie.Need-returns Inv-loop μ-loop
 unfolding required allNodes
@@ -74,8 +71,7 @@ required-nodes-spec =
     shared-slice-read-is-required
     array-read-is-required
     is-required-requires
-    mul-nodes
-    slice-write-nodes
+    note-node-requires
     add-count
     add-p
     loop-less

@@ -9,6 +9,7 @@ use native.Mathlib.Numerals.{add-one}
 use lib.Dec.{eqb}
 use lib.ListN.{length, getD}
 use Rattle.pass_rules.specs.Pass.{markIn}
+use Rattle.sheet_required.proofs.HeldLaws.{room-exact}
 use Rattle.sheet_required.proofs.RequiredLaws.{Listing, listing, listed-size, list-more, list-pass, listed}
 use Rattle.text_answer.specs.Text.{newlyForbidden}
 use Rattle.text_answer.proofs.newly_forbidden.Statement.{statement}
@@ -39,7 +40,7 @@ mul-list : tie.Need-mul-list Inv-loop μ-loop
 mul-list c = omega arith
 
 slice-write-list : tie.Need-slice-write-list Inv-loop μ-loop
-slice-write-list c = omega (arith, listed-size (c .before .before .before .before .before .loop .inv) (omega arith), c .before .before .before .before .before .loop .inv .small)
+slice-write-list c = omega (arith, listed-size (c .before .before .before .before .before .loop .inv), c .before .before .before .before .before .loop .inv .small)
 
 add-count : tie.Need-add-count Inv-loop μ-loop
 add-count c = omega (arith, c .before .before .before .before .before .loop .inv .small)
@@ -57,16 +58,16 @@ loop-again c =
     let i = c .before .before .before .before .before .loop .i in
     let e = c .before .is-new .ensures ∙ ap (λ j. eqb (getD (a .marks .now) i 0) 0 && eqb (getD (a .slip .now) j 0) 2) (add-one i) in
     ⊎-elim
-    (λ k. rw (k .1, k .2) (list-more w (omega arith) (c .before .before .before .before .loop-test .taken) (sym e ∙ k .0 .taken)))
+    (λ k. rw (k .1, k .2) (list-more w (c .before .before .before .before .loop-test .taken) (sym e ∙ k .0 .taken)))
     (λ k. rw (k .1, k .2) (list-pass w (c .before .before .before .before .loop-test .taken) (sym e ∙ k .0 .left)))
     (c .if1 .came)
 
 same-length : tie.Need-same-length Inv-loop μ-loop
-same-length c = listed-size (c .before .loop .inv) (omega arith)
+same-length c = listed-size (c .before .loop .inv)
 
 returns : tie.Need-returns Inv-loop μ-loop
 unfolding newlyForbidden
-returns c = listed (c .before .loop .inv) (c .loop-test .left)
+returns c = let w = c .before .loop .inv in room-exact (listed w (c .loop-test .left)) (omega (arith, w .small, w .few))
 
 pub newly-forbidden-spec : {M : Type 1} → statement M
 newly-forbidden-spec =

@@ -3,7 +3,8 @@ use borrow.Author.Needs.{needs}
 use mathlib.Core.List.{[], _∷_}
 use native.Mathlib.Omega.{arith}
 use lib.ListN.{set}
-use Rattle.lists.proofs.FrontLaws.{Put, put-none, Room, first-fits, put-within, put-room, put-end, put-on, on-kept, byte-within, put-byte}
+use Rattle.lists.proofs.FrontLaws.{put-none, Room, first-fits, put-within, put-room, put-end, put-on, on-kept, byte-within, put-byte}
+use Rattle.lists.specs.Lists.{Put}
 use Rattle.text_lines.specs.Lines.{decimal, spaced}
 use Rattle.text_lines.proofs.put_spaced.Statement.{statement}
 use Rattle.text_lines.proofs.put_spaced.Tie as tie

@@ -1,14 +1,13 @@
 -- `put_stands_text` lists the items newly forbidden by the sheet's marks, which it reads again, and by those of the slip. Assumes nothing.
 use borrow.Author.Needs.{needs}
-use Prim.Native.Nat.{_+_}
-use mathlib.Core.Path.{sym, ap, _∙_}
+use Prim.Native.Nat.{_*_, _+_}
+use mathlib.Core.Path.{_≡_, refl, sym, ap, _∙_}
 use native.Mathlib.Omega.{arith}
 use lib.ListN.{length, take}
 use Rattle.sheet_required.proofs.HeldLaws.{listed-front}
-use Rattle.sheet_reader.proofs.LoadedLaws.{loaded, unloaded}
-use Rattle.sheet.specs.Sheet.{Sheet}
+use Rattle.sheet_reader.specs.Loaded.{Loaded}
 use Rattle.text_answer.specs.Text.{newlyForbidden}
-use Rattle.text_report.proofs.SlipTextLaws.{never-refused, stands-is}
+use Rattle.text_report.proofs.SlipTextLaws.{never-refused, Stands, stands-is}
 use Rattle.text_report.proofs.put_stands_text.Statement.{statement}
 use Rattle.text_report.proofs.put_stands_text.Tie as tie
 
@@ -30,90 +29,51 @@ enum-told c = search needs
 returns : tie.Need-returns
 returns c =
     let s = c .before .before .before .before .before .before .before .before .before .before in
-    absurd (never-refused (s .args .sheet .now) (s .args .slip .now) _ (s .pre .0) (unloaded (s .args .sheet .now) _ (sym (c .enum-told .given .1) ∙ c .before .before .before .before .read .ensures .0)))
+    absurd (never-refused (s .args .sheet .now) (s .args .slip .now) _ (s .pre .0) (c .before .before .before .before .read .ensures .1 .1 .1 .refused _ (c .enum-told .given .1)))
+
+-- the sheet that was read, and what its marks and the slip print
+loaded : (p : tie.After-header) → let q = p .before .before .before .before .read in
+    Loaded (p .before .before .before .before .before .before .before .before .before .before .args .sheet .now) (p .header .given .0 .0) (take (3 * p .header .given .0 .0 .arcs) (q .last .1 .0)) (take (p .header .given .0 .0 .nodes + p .header .given .0 .0 .arcs) (q .last .1 .1 .0))
+loaded p = p .before .before .before .before .read .ensures .1 .1 .1 .took _ (p .header .given .1)
+
+stands : (p : tie.After-header) → let q = p .before .before .before .before .read in
+    Stands (p .before .before .before .before .before .before .before .before .before .before .args .sheet .now) (p .before .before .before .before .before .before .before .before .before .before .args .slip .now) (take (p .header .given .0 .0 .nodes + p .header .given .0 .0 .arcs) (q .last .1 .1 .0))
+stands p = let s = p .before .before .before .before .before .before .before .before .before .before in stands-is (s .args .sheet .now) (s .args .slip .now) _ _ (s .pre .0) (s .pre .1) (loaded p .makes) refl
 
 add-items : tie.Need-add-items
-add-items c =
-    let s = c .before .before .before .before .before .before .before .before .before .before .before .before in
-    let h = c .before .before .header .given in
-    let r = c .before .before .before .before .before .before .read in
-    let L = loaded (s .args .sheet .now) _ _ (r .last .1 .0) (r .last .1 .1 .0) (h .0 .0) (sym (h .1) ∙ r .ensures .0) (r .ensures .1 .0) (r .ensures .1 .1) in
-    omega (arith, L .whole .few, L .whole .proper .few)
+add-items c = let W = loaded (c .before .before) .whole in omega (arith, W .few, W .proper .few)
 
 array-share-prefix-marks : tie.Need-array-share-prefix-marks
-array-share-prefix-marks c =
-    let s = c .before .before .before .before .before .before .before .before .before .before .before .before in
-    let h = c .before .before .header .given in
-    let r = c .before .before .before .before .before .before .read in
-    let L = loaded (s .args .sheet .now) _ _ (r .last .1 .0) (r .last .1 .1 .0) (h .0 .0) (sym (h .1) ∙ r .ensures .0) (r .ensures .1 .0) (r .ensures .1 .1) in
-    omega (arith, L .whole .few, L .whole .proper .few, r .kept .1 .1 .0)
+array-share-prefix-marks c = let W = loaded (c .before .before) .whole in omega (arith, W .few, W .proper .few, c .before .before .before .before .before .before .read .kept .1 .1 .0)
 
 slice-aggregate-newly-forbidden : tie.Need-slice-aggregate-newly-forbidden
-slice-aggregate-newly-forbidden c =
-    let s = c .before .before .before .before .before .before .before .before .before .before .before .before .before in
-    let h = c .before .before .before .header .given in
-    let r = c .before .before .before .before .before .before .before .read in
-    let L = loaded (s .args .sheet .now) _ _ (r .last .1 .0) (r .last .1 .1 .0) (h .0 .0) (sym (h .1) ∙ r .ensures .0) (r .ensures .1 .0) (r .ensures .1 .1) in
-    sym (L .whole .held .1)
+slice-aggregate-newly-forbidden c = sym (loaded (c .before .before .before) .whole .held .1)
 
 slice-aggregate-newly-forbidden-2 : tie.Need-slice-aggregate-newly-forbidden-2
 slice-aggregate-newly-forbidden-2 c = search needs
 
 newly-forbidden-requires : tie.Need-newly-forbidden-requires
-newly-forbidden-requires c κs =
-    let s = c .before .before .before .before .before .before .before .before .before .before .before .before .before .before in
-    let h = c .before .before .before .before .header .given in
-    let r = c .before .before .before .before .before .before .before .before .read in
-    let L = loaded (s .args .sheet .now) _ _ (r .last .1 .0) (r .last .1 .1 .0) (h .0 .0) (sym (h .1) ∙ r .ensures .0) (r .ensures .1 .0) (r .ensures .1 .1) in
-    let ms = take (h .0 .0 .nodes + h .0 .0 .arcs) (r .last .1 .1 .0) in
-    let T = stands-is (s .args .sheet .now) (s .args .slip .now) ms (L .read) (s .pre .0) (s .pre .1) (L .took) (ap (λ (S : Sheet). S .marks) (L .same)) in
-    (T .longer, T .few)
+newly-forbidden-requires c κs = let T = stands (c .before .before .before .before) in (T .longer, T .few)
 
 array-share-prefix-list : tie.Need-array-share-prefix-list
-array-share-prefix-list c =
-    let s = c .before .before .before .before .before .before .before .before .before .before .before .before .before .before .before .before .before in
-    let h = c .before .before .before .before .before .before .before .header .given in
-    let r = c .before .before .before .before .before .before .before .before .before .before .before .read in
-    let L = loaded (s .args .sheet .now) _ _ (r .last .1 .0) (r .last .1 .1 .0) (h .0 .0) (sym (h .1) ∙ r .ensures .0) (r .ensures .1 .0) (r .ensures .1 .1) in
-    let ms = take (h .0 .0 .nodes + h .0 .0 .arcs) (r .last .1 .1 .0) in
-    let T = stands-is (s .args .sheet .now) (s .args .slip .now) ms (L .read) (s .pre .0) (s .pre .1) (L .took) (ap (λ (S : Sheet). S .marks) (L .same)) in
-    omega (arith, T .listed, c .before .before .newly-forbidden .ensures .0, c .before .before .newly-forbidden .kept .1 .1 .0)
+array-share-prefix-list c = let n = c .before .before .newly-forbidden in omega (arith, stands (c .before .before .before .before .before .before .before) .listed, n .ensures .0, n .kept .1 .1 .0)
+
+-- the items that were listed
+listed : (p : tie.After-newly-forbidden) → let q = p .before .before .before .before .before .before .before .before .before .read in
+    take (p .newly-forbidden .result) (p .newly-forbidden .last .1 .1 .0) ≡ newlyForbidden (take (p .before .before .before .before .before .header .given .0 .0 .nodes + p .before .before .before .before .before .header .given .0 .0 .arcs) (q .last .1 .1 .0)) (p .before .before .before .before .before .before .before .before .before .before .before .before .before .before .before .args .slip .now)
+listed p = listed-front _ _ _ _ (p .newly-forbidden .ensures)
 
 slice-aggregate-put-stands : tie.Need-slice-aggregate-put-stands
-slice-aggregate-put-stands c =
-    let s = c .before .before .before .before .before .before .before .before .before .before .before .before .before .before .before .before .before .before in
-    let h = c .before .before .before .before .before .before .before .before .header .given in
-    let r = c .before .before .before .before .before .before .before .before .before .before .before .before .read in
-    let L = loaded (s .args .sheet .now) _ _ (r .last .1 .0) (r .last .1 .1 .0) (h .0 .0) (sym (h .1) ∙ r .ensures .0) (r .ensures .1 .0) (r .ensures .1 .1) in
-    let ms = take (h .0 .0 .nodes + h .0 .0 .arcs) (r .last .1 .1 .0) in
-    let T = stands-is (s .args .sheet .now) (s .args .slip .now) ms (L .read) (s .pre .0) (s .pre .1) (L .took) (ap (λ (S : Sheet). S .marks) (L .same)) in
-    let k = listed-front (newlyForbidden ms (s .args .slip .now)) _ _ _ (c .before .before .before .newly-forbidden .ensures) in
-    c .before .before .before .newly-forbidden .ensures .0 ∙ sym (ap length k)
+slice-aggregate-put-stands c = c .before .before .before .newly-forbidden .ensures .0 ∙ sym (ap length (listed (c .before .before .before)))
 
 put-stands-requires : tie.Need-put-stands-requires
-put-stands-requires c κs =
-    let s = c .before .before .before .before .before .before .before .before .before .before .before .before .before .before .before .before .before .before in
-    let h = c .before .before .before .before .before .before .before .before .header .given in
-    let r = c .before .before .before .before .before .before .before .before .before .before .before .before .read in
-    let L = loaded (s .args .sheet .now) _ _ (r .last .1 .0) (r .last .1 .1 .0) (h .0 .0) (sym (h .1) ∙ r .ensures .0) (r .ensures .1 .0) (r .ensures .1 .1) in
-    let ms = take (h .0 .0 .nodes + h .0 .0 .arcs) (r .last .1 .1 .0) in
-    let T = stands-is (s .args .sheet .now) (s .args .slip .now) ms (L .read) (s .pre .0) (s .pre .1) (L .took) (ap (λ (S : Sheet). S .marks) (L .same)) in
-    let k = listed-front (newlyForbidden ms (s .args .slip .now)) _ _ _ (c .before .before .before .newly-forbidden .ensures) in
-    rw k (T .small, omega (arith, T .room, s .pre .2))
+put-stands-requires c κs = let T = stands (c .before .before .before .before .before .before .before .before) in rw (listed (c .before .before .before)) (T .small, omega (arith, T .room, c .before .before .before .before .before .before .before .before .before .before .before .before .before .before .before .before .before .before .pre .2))
 
 same-length : tie.Need-same-length
 same-length c = search needs
 
 returns-2 : tie.Need-returns-2
-returns-2 c =
-    let s = c .before .before .before .before .before .before .before .before .before .before .before .before .before .before .before .before .before .before .before .before .before in
-    let h = c .before .before .before .before .before .before .before .before .before .before .before .header .given in
-    let r = c .before .before .before .before .before .before .before .before .before .before .before .before .before .before .before .read in
-    let L = loaded (s .args .sheet .now) _ _ (r .last .1 .0) (r .last .1 .1 .0) (h .0 .0) (sym (h .1) ∙ r .ensures .0) (r .ensures .1 .0) (r .ensures .1 .1) in
-    let ms = take (h .0 .0 .nodes + h .0 .0 .arcs) (r .last .1 .1 .0) in
-    let T = stands-is (s .args .sheet .now) (s .args .slip .now) ms (L .read) (s .pre .0) (s .pre .1) (L .took) (ap (λ (S : Sheet). S .marks) (L .same)) in
-    let k = listed-front (newlyForbidden ms (s .args .slip .now)) _ _ _ (c .before .before .before .before .before .before .newly-forbidden .ensures) in
-    rw (T .printed) (rw k at (c .before .before .put-stands .ensures))
+returns-2 c = rw (stands (c .before .before .before .before .before .before .before .before .before .before .before) .printed) (rw (listed (c .before .before .before .before .before .before)) at (c .before .before .put-stands .ensures))
 
 pub put-stands-text-spec : {M : Type 1} → statement M
 put-stands-text-spec =

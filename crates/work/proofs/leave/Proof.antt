@@ -1,32 +1,17 @@
--- `leave` meets its contract: the work bytes are zeroed where the number is 0 or over 13, and left as found else. Assumes nothing.
+-- `work::leave` meets its contract: the work is zeroed, or as found. Assumes nothing.
 use mathlib.Core.Path.{sym, _∙_}
 use borrow.Author.Needs.{needs}
-use Rattle.work.proofs.BytesLaws.{left-finished, left-late, left-early}
+use Rattle.work.specs.Left.{left}
 use Rattle.work.proofs.leave.Statement.{statement}
 use Rattle.work.proofs.leave.Tie as tie
 
-zero-bytes-requires : tie.Need-zero-bytes-requires
-zero-bytes-requires c κs = search needs
-
-same-length : tie.Need-same-length
-same-length c = search needs
-
 returns : tie.Need-returns
-returns c = c .before .before .zero-bytes .ensures ∙ sym (left-finished _ _ (c .before .before .before .before .if1 .taken))
-
-zero-bytes-requires-2 : tie.Need-zero-bytes-requires-2
-zero-bytes-requires-2 c κs = search needs
-
-same-length-2 : tie.Need-same-length-2
-same-length-2 c = search needs
+unfolding left
+returns c = let e = sym (c .before .before .before .before .before .is-zeroed .ensures) ∙ c .before .before .before .before .if1 .taken in rw e (c .before .before .zero .ensures)
 
 returns-2 : tie.Need-returns-2
-returns-2 c = c .before .before .zero-bytes2 .ensures ∙ sym (left-late _ _ (c .before .before .before .before .before .if1 .left) (c .before .before .before .before .if2 .taken))
-
-returns-3 : tie.Need-returns-3
-returns-3 c = sym (left-early _ _ (c .before .if1 .left) (c .if2 .left))
+unfolding left
+returns-2 c = let e = sym (c .before .is-zeroed .ensures) ∙ c .if1 .left in rw e
 
 pub leave-spec : {M : Type 1} → statement M
-leave-spec =
-    tie.close
-    (tie.spec zero-bytes-requires same-length returns zero-bytes-requires-2 same-length-2 returns-2 returns-3)
+leave-spec = tie.close (tie.spec (λ c κs. search needs) (λ c κs. search needs) (λ c. search needs) returns returns-2)

@@ -1,0 +1,37 @@
+-- Whatever reason answers fits the one number of a call. Assumes nothing.
+use Prim.Native.Nat.{ℕ}
+use mathlib.Core.Path.{_≡_, refl}
+use mathlib.Core.Bool.{Bool, true, false}
+use mathlib.Core.List.{List, [], _∷_}
+use native.Mathlib.Omega.{arith}
+use lib.Dec.{ltb}
+use Rattle.lists.specs.Lists.{pick}
+use Rattle.sheet.specs.Sheet.{Sheet}
+use Rattle.sheet.specs.Slip.{slipBytes}
+use Rattle.varint.specs.Varint.{Read, got, refuse, after}
+use Rattle.walks.specs.Graph.{itemCount}
+use Rattle.pass_rules.proofs.AcceptedLaws.{accepted-got}
+use Rattle.pass_rules.proofs.WithinLaws.{Within, accepted-refuses}
+use Rattle.pass_rules.specs.Accepted.{accepted}
+use Rattle.pass_rules.specs.Pass.{finished, answerOf}
+use Rattle.pass_rules.specs.Verdict.{slipFor}
+use Rattle.reason_rules.proofs.AnswerLaws.{reason-slip-size}
+use Rattle.reason_rules.specs.Reason.{prunes, reasonIn, reasonOn}
+
+pub reason-within : (sheet : List ℕ) (i : ℕ) → Within (reasonOn sheet i)
+unfolding reasonOn reasonIn answerOf after
+reason-within sheet i = go (accepted sheet) refl
+  where
+    item : (S : Sheet) → accepted sheet ≡ got S [] → (t p : Bool) → ltb i (itemCount (S .graph)) ≡ t → prunes S i ≡ p
+        → Within (answerOf (pick t (pick p (got (slipBytes (slipFor S 4 (i ∷ []))) []) (refuse 16)) (refuse 15)))
+    item S a false p t≡ p≡ = (omega arith, omega arith)
+    item S a true false t≡ p≡ = (omega arith, omega arith)
+    item S a true true t≡ p≡ =
+        let e : reasonOn sheet i ≡ finished (slipBytes (slipFor S 4 (i ∷ []))) = rw (a, t≡, p≡) in
+        reason-slip-size sheet S i (slipBytes (slipFor S 4 (i ∷ []))) a e .0
+
+    go : (r : Read Sheet) → accepted sheet ≡ r → Within (answerOf (after r (reasonIn i)))
+    go (got S rest) e =
+        let n : rest ≡ [] = accepted-got sheet S rest e .1 in
+        rw n (item S (rw n at e) (ltb i (itemCount (S .graph))) (prunes S i) refl refl)
+    go (refuse v) e = let b = accepted-refuses sheet v e in (b .0, omega (arith, b .1))
