@@ -55,7 +55,7 @@ extern "C" {
 /* A thread with a stack of this size can make any call: what the largest sheets need, and a margin
  * for the caller's own frames. The host's tests make their calls on such sheets in a thread of this
  * size. */
-#define WAYS_STACK_BYTES 131072u
+#define WAYS_STACK_BYTES 65536u
 
 /* The mark of an item, in a sheet and in the slip of a round that stands. */
 enum ways_mark {

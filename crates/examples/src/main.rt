@@ -1,11 +1,10 @@
 // Runs the lines of document 01, 'The sheet B and what it gives', through pass, reason and check, and prints what each gives. The work and the slip
 // are lent longer than asked for and filled before the call, so that what is left as found can be seen. Then views of arcs.
 use libc::STDOUT_FILENO;
+use work::WORK_NUMBERS;
 
-// How many work numbers an operation asks for, and a few more; a slip longer than asked for.
-const WORK_NUMBERS: usize = 16384;
-
-const WORK_LENT: usize = 16390;
+// A few more work numbers than an operation asks for, and a slip longer than asked for.
+const WORK_LENT: usize = WORK_NUMBERS + 6;
 
 const SLIP_LENT: usize = 1210;
 

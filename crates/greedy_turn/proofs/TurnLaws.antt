@@ -10,14 +10,13 @@ use native.Mathlib.Decide.{ℕ-discrete}
 use lib.ListN.{length, getD, take, set, length-set}
 use lib.Seq.{take-take, set-set, set-getD}
 use lib.Dec.{leb}
-use borrow.Author.Tests.{eqb-true, lt-leb}
+use borrow.Author.Tests.{eqb-true}
 use Rattle.lists.specs.Lists.{member}
 use Rattle.lists.proofs.MemberLaws.{member-place, member-away}
 use Rattle.walks.specs.Graph.{Graph, closedIn, least, fits}
 use Rattle.walks.specs.Goals.{entryOf, exitOf, ownOf}
-use Rattle.walks.specs.Lengths.{Least, none, some, within}
 use Rattle.walks.proofs.OpenedLaws.{open-other}
-use Rattle.rows.specs.Held.{missing, held, code, atMost, kept}
+use Rattle.rows.specs.Held.{held, code, kept}
 use Rattle.rows.specs.Net.{Net, Proper, Packed}
 use Rattle.rows.specs.Rows.{StartsFit}
 use Rattle.rows.proofs.ArcLaws.{item-at, entry-below}
@@ -26,6 +25,7 @@ use Rattle.goal_table.proofs.TableLaws.{same-front}
 use Rattle.lengths.proofs.PartLaws.{rowed-of}
 use Rattle.rows.specs.Bits.{bitOf}
 use Rattle.rows.proofs.BitLaws.{bit-small}
+use Rattle.rows.proofs.HeldLaws.{fits-held}
 use Rattle.rows.proofs.WorkLaws.{rows-same}
 use Rattle.row_save.specs.Kept.{RowsBack}
 use Rattle.row_save.specs.Unmoved.{Unmoved}
@@ -33,20 +33,6 @@ use Rattle.row_links.specs.Links.{Linked}
 use Rattle.row_reopen.specs.Openings.{Opened, ItemOpened}
 use Rattle.greedy_turn.specs.Turns.{Task, map, net, source, items, Setting, fitsAt, Told, NotedBeside, RowsFor, Ready, InTurn, TurnJudged, State, Turned}
 use Rattle.greedy_turn.proofs.SameLaws.{Same, Alike, goals-same}
-
--- a walk fits where the length that is held is at most the cap
-pub fits-held : (G : Graph) (s t cap : ℕ) (c : ℕ → Bool) (goals : List ℕ) → cap < missing
-    → fits G s t cap c goals ≡ leb (held cap (least G c goals s t)) cap
-unfolding fits within held atMost code kept
-fits-held G s t cap c goals small = go (least G c goals s t)
-  where
-    go : (r : Least) → within r cap ≡ leb (held cap r) cap
-    go none = sym (lt-leb missing cap small)
-    go (some a) = pick (leb a cap) refl
-      where
-        pick : (b : Bool) → leb a cap ≡ b → leb a cap ≡ leb (code (kept b a)) cap
-        pick true q = refl
-        pick false q = q ∙ sym (lt-leb missing cap small)
 
 own-same : (G : Graph) (old : List ℕ) (i g : ℕ) → (g ≡ i → ⊥) → ownOf G (closedIn (set old i 0)) g ≡ ownOf G (closedIn old) g
 unfolding ownOf

@@ -1,17 +1,17 @@
 -- What the rows say of an item, and a goal's least length of all goals. Assumes nothing.
 use Prim.Native.Nat.{ℕ, _+_, _≤_, _<_}
-use mathlib.Core.Path.{_≡_, refl, sym, ap, _∙_}
-use mathlib.Core.Bool.{true, false}
+use mathlib.Core.Path.{_≡_, sym, ap, _∙_}
+use mathlib.Core.Bool.{true}
 use mathlib.Core.List.{List, [], _∷_}
 use native.Mathlib.Omega.{arith}
 use lib.ListN.{getD}
 use lib.Seq.{getD-drop}
 use lib.Dec.{leb}
-use borrow.Author.Tests.{le-leb, lt-leb}
+use borrow.Author.Tests.{le-leb}
 use Rattle.sheet.specs.declared.Header.{Header}
 use Rattle.sheet_required.specs.Held.{sheetOf}
 use Rattle.rows.proofs.ArcLaws.{item-at}
-use Rattle.rows.proofs.HeldLaws.{Held, low, high, Above, held-is}
+use Rattle.rows.proofs.HeldLaws.{held-within}
 use Rattle.rows.specs.Held.{held, missing, code, atMost}
 use Rattle.rows.specs.Net.{netOf}
 use Rattle.sheet.specs.Sheet.{isForbidden}
@@ -20,21 +20,8 @@ use Rattle.walks.proofs.Through.{through-one}
 use Rattle.walks.specs.Flat.{graphOf}
 use Rattle.walks.specs.Goals.{entryOf, exitOf, ownOf}
 use Rattle.walks.specs.Graph.{closedIn, least, fits}
-use Rattle.walks.specs.Lengths.{Least, none, some, within, plus}
+use Rattle.walks.specs.Lengths.{plus}
 use Rattle.item_fits.specs.Rows.{Rows}
-
--- a length as a number is at most the cap exactly where the length is
-pub held-within : (cap : ℕ) (r : Least) → cap < missing → leb (held cap r) cap ≡ within r cap
-unfolding within
-held-within cap r h = go (held cap r) (held-is cap r)
-  where
-    above : (r : Least) → Above cap r → false ≡ within r cap
-    above none a = refl
-    above (some k) a = sym (lt-leb k cap a)
-
-    go : (x : ℕ) → Held cap r x → leb x cap ≡ within r cap
-    go x (low {k = k} l e) = rw e
-    go x (high a) = lt-leb missing cap h ∙ above r a
 
 module _ {h : Header} {arcs marks rows : List ℕ} (R : Rows h arcs marks rows) where
   small : h .limit < missing

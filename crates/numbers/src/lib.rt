@@ -4,10 +4,10 @@ ghost use mathlib.Core.Bool.{true};
 ghost use Prim.Native.Nat.{_+_, _≤_, _<_};
 ghost use lib.ListN.{length, drop};
 ghost use Rattle.lists.specs.Lists.{front, Put};
-ghost use Rattle.varint.specs.Varint.{readNumber, several, writeNumbers};
+ghost use Rattle.varint.specs.Varint.{readNumber, writeNumbers};
 ghost use Rattle.numbers.specs.Begun.{begun};
 ghost use Rattle.varint.specs.Answer.{small};
-ghost use Rattle.numbers.specs.Answer.{sectionOf, sectionEnd};
+ghost use Rattle.numbers.specs.Answer.{SectionIs, sectionEnd};
 use varint::Number;
 
 // Where a section of values of one kind ends, or the refusal.
@@ -18,7 +18,7 @@ pub enum SectionRead {
 
 // Passes over the numbers that stand from `from` on.
 pub fn skip_numbers(bytes: &[u8], from: usize, count: usize) -> SectionRead
-    ensures { λ r. ⌜ sectionOf (now (bytes .entry)) (begun readNumber count (drop from (now (bytes .entry)))) r ≡ several readNumber count (drop from (now (bytes .entry))) ⌝ }
+    ensures { λ r. ⌜ SectionIs (now (bytes .entry)) readNumber count (drop from (now (bytes .entry))) r ⌝ }
     ensures { λ r. ⌜ (from ≤ length (now (bytes .entry)) → sectionEnd r ≤ length (now (bytes .entry))) ⌝ }
 {
     let mut at = from;

@@ -1,11 +1,13 @@
 -- Lengths as numbers, missing above the cap: sums and the lesser of two. Assumes nothing.
 use Prim.Native.Nat.{ℕ, _+_, _≤_, _<_}
-use mathlib.Core.Path.{_≡_, refl, sym, ap, subst}
+use mathlib.Core.Path.{_≡_, refl, sym, ap, subst, _∙_}
 use mathlib.Core.Bool.{Bool, true, false}
+use mathlib.Core.List.{List}
 use native.Mathlib.Omega.{arith}
 use lib.Dec.{leb}
 use borrow.Author.Tests.{leb-true, leb-false, le-leb, lt-leb}
-use Rattle.walks.specs.Lengths.{Least, none, some, lesser, plus}
+use Rattle.walks.specs.Graph.{Graph, least, fits}
+use Rattle.walks.specs.Lengths.{Least, none, some, lesser, plus, within}
 use Rattle.rows.specs.Held.{kept, atMost, missing, code, held}
 
 -- r is missing or more than the cap
@@ -101,3 +103,22 @@ above-none cap e = subst (λ (x : Least). Above cap x) (sym e) tt
 
 pub holds : (cap : ℕ) (r : Least) {x : ℕ} → x ≡ held cap r → Held cap r x
 holds cap r e = subst (λ (x : ℕ). Held cap r x) (sym e) (held-is cap r)
+
+-- a length as a number is at most the cap exactly where the length is
+pub held-within : (cap : ℕ) (r : Least) → cap < missing → leb (held cap r) cap ≡ within r cap
+unfolding within
+held-within cap r h = go (held cap r) (held-is cap r)
+  where
+    above : (r : Least) → Above cap r → false ≡ within r cap
+    above none a = refl
+    above (some k) a = sym (lt-leb k cap a)
+
+    go : (x : ℕ) → Held cap r x → leb x cap ≡ within r cap
+    go x (low {k = k} l e) = rw e
+    go x (high a) = lt-leb missing cap h ∙ above r a
+
+-- a walk fits where the length that is held is at most the cap
+pub fits-held : (G : Graph) (s t cap : ℕ) (c : ℕ → Bool) (goals : List ℕ) → cap < missing
+    → fits G s t cap c goals ≡ leb (held cap (least G c goals s t)) cap
+unfolding fits
+fits-held G s t cap c goals small = sym (held-within cap (least G c goals s t) small)

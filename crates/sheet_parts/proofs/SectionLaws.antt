@@ -23,18 +23,18 @@ module _ {m : ℕ} {bs old : List ℕ} {f : List ℕ → Read Arc} {j : ℕ} {re
 
   pub arc-stored :
       (t h c : ℕ) → j < m
-      → set (set (set out (3 * j) t) (3 * j + 1) h) (3 * j + 2) c
+      → set (set (set out (j * 3) t) (j * 3 + 1) h) (j * 3 + 2) c
       ≡ front (flat (w .way .xs ++ (record { tail = t; head = h; weight = c } ∷ []))) old
   unfolding flat
   arc-stored t h c l =
       let ys = flat (w .way .xs) in
-      let z : length ys ≡ 3 * j = length-flat (w .way .xs) ∙ ap (λ (i : ℕ). 3 * i) (w .way .size) in
-      let z1 : length (ys ++ (t ∷ [])) ≡ 3 * j + 1 = simp length-append (omega arith) in
-      let z2 : length ((ys ++ (t ∷ [])) ++ (h ∷ [])) ≡ 3 * j + 2 = simp length-append (omega arith) in
+      let z : length ys ≡ j * 3 = omega (arith, length-flat (w .way .xs), w .way .size) in
+      let z1 : length (ys ++ (t ∷ [])) ≡ j * 3 + 1 = simp length-append (omega arith) in
+      let z2 : length ((ys ++ (t ∷ [])) ++ (h ∷ [])) ≡ j * 3 + 2 = simp length-append (omega arith) in
       let e : flat (w .way .xs ++ (record { tail = t; head = h; weight = c } ∷ [])) ≡ ((ys ++ (t ∷ [])) ++ (h ∷ [])) ++ (c ∷ []) =
       flat-append (w .way .xs) (record { tail = t; head = h; weight = c } ∷ []) ∙ simp append-assoc
       in
       rw e
-      (push-at ((ys ++ (t ∷ [])) ++ (h ∷ [])) old _ (3 * j + 2) c
-      (push-at (ys ++ (t ∷ [])) old _ (3 * j + 1) h (push-at ys old out (3 * j) t (w .holds) z (omega arith)) z1 (omega arith))
+      (push-at ((ys ++ (t ∷ [])) ++ (h ∷ [])) old _ (j * 3 + 2) c
+      (push-at (ys ++ (t ∷ [])) old _ (j * 3 + 1) h (push-at ys old out (j * 3) t (w .holds) z (omega arith)) z1 (omega arith))
       z2 (omega arith))

@@ -3,10 +3,9 @@ ghost use mathlib.Core.Path.{_≡_};
 ghost use Prim.Native.Nat.{_*_, _≤_};
 ghost use lib.ListN.{length, drop};
 ghost use Rattle.lists.specs.Lists.{front};
-ghost use Rattle.varint.specs.Varint.{several};
 ghost use Rattle.walks.specs.Flat.{flat};
 ghost use Rattle.sheet.specs.Reader.{headerSource, readHeader, readArc};
-ghost use Rattle.numbers.specs.Answer.{sectionOf};
+ghost use Rattle.numbers.specs.Answer.{SectionIs};
 ghost use Rattle.numbers.specs.Begun.{begun};
 ghost use Rattle.sheet_parts.specs.Sections.{headerIn, HeaderFits, arcOf};
 use numbers::SectionRead;
@@ -129,7 +128,7 @@ fn arc_at(sheet: &[u8], at: usize, nodes: u32) -> ArcRead
 // Reads the arcs at the front of `section` and stores tail, head and minutes of each over the front of `arcs`.
 pub fn arcs_in(section: &[u8], nodes: u32, count: usize, arcs: &mut [u32]) -> SectionRead
     requires { ⌜ 3 * count ≤ length (now arcs) ⌝ }
-    ensures { λ r. ⌜ sectionOf (now (section .entry)) (begun (readArc nodes) count (now (section .entry))) r ≡ several (readArc nodes) count (now (section .entry)) ⌝ }
+    ensures { λ r. ⌜ SectionIs (now (section .entry)) (readArc nodes) count (now (section .entry)) r ⌝ }
     ensures { λ _. ⌜ now (arcs .exit) ≡ front (flat (begun (readArc nodes) count (now (section .entry)))) (now (arcs .entry)) ⌝ }
 {
     let mut at: usize = 0;
@@ -140,9 +139,9 @@ pub fn arcs_in(section: &[u8], nodes: u32, count: usize, arcs: &mut [u32]) -> Se
                 return SectionRead::Refused(why);
             }
             ArcRead::Got(tail, head, minutes, next) => {
-                arcs[3 * j] = tail;
-                arcs[3 * j + 1] = head;
-                arcs[3 * j + 2] = minutes;
+                arcs[j * 3] = tail;
+                arcs[j * 3 + 1] = head;
+                arcs[j * 3 + 2] = minutes;
                 at = next;
             }
         }

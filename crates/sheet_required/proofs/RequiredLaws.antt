@@ -14,7 +14,7 @@ use Rattle.lists.specs.Lists.{pick, front, add, keep, span}
 use Rattle.lists.proofs.FrontLaws.{length-front, push}
 use Rattle.walks.specs.Graph.{Arc, noArc, tailOf, headOf, arcItem}
 use Rattle.walks.specs.Flat.{arcsOf, graphOf}
-use Rattle.walks.proofs.FlatLaws.{arc-in, arcs-many}
+use Rattle.walks.proofs.FlatLaws.{arc-at, arcs-many}
 use Rattle.sheet.specs.declared.Header.{Header}
 use Rattle.sheet.specs.Sheet.{markOf, isMandatory, endsMandatory, allArcs, isRequired}
 use Rattle.sheet_required.specs.Held.{sheetOf, Held, Ends, RoomListed}
@@ -51,7 +51,7 @@ module _ (h : Header) (xs ms : List ℕ) where
 
   -- what the arc i adds
   abbrev with-arc : ℕ → List ℕ → List ℕ
-  with-arc i ends = pick (eqb (getD ms (h .nodes + i) 0) 1) (set (set ends (getD xs (3 * i) 0) 1) (getD xs (3 * i + 1) 0) 1) ends
+  with-arc i ends = pick (eqb (getD ms (h .nodes + i) 0) 1) (set (set ends (getD xs (i * 3) 0) 1) (getD xs (i * 3 + 1) 0) 1) ends
 
   module _ (held : Held h xs ms) where
     arc-adds :
@@ -61,25 +61,25 @@ module _ (h : Header) (xs ms : List ℕ) where
         && (eqb (tailOf (graphOf (h .nodes) xs) i) p || eqb (headOf (graphOf (h .nodes) xs) i) p)) || d)
     unfolding isMandatory markOf arcItem tailOf headOf
     arc-adds i ends p d l below e =
-        let q = arc-in xs i (omega (arith, held .0)) in
-        let t : getD (arcsOf xs) i noArc .tail ≡ getD xs (3 * i) 0 = ap (λ (x : Arc). x .tail) q in
-        let u : getD (arcsOf xs) i noArc .head ≡ getD xs (3 * i + 1) 0 = ap (λ (x : Arc). x .head) q in
+        let q = arc-at xs i (omega (arith, held .0)) in
+        let t : getD (arcsOf xs) i noArc .tail ≡ getD xs (i * 3) 0 = ap (λ (x : Arc). x .tail) q in
+        let u : getD (arcsOf xs) i noArc .head ≡ getD xs (i * 3 + 1) 0 = ap (λ (x : Arc). x .head) q in
         rw (t, u) (go (eqb (getD ms (h .nodes + i) 0) 1))
       where
         go :
             (t : Bool)
-            → eqb (getD (pick t (set (set ends (getD xs (3 * i) 0) 1) (getD xs (3 * i + 1) 0) 1) ends) p 0) 1
-            ≡ ((t && (eqb (getD xs (3 * i) 0) p || eqb (getD xs (3 * i + 1) 0) p)) || d)
+            → eqb (getD (pick t (set (set ends (getD xs (i * 3) 0) 1) (getD xs (i * 3 + 1) 0) 1) ends) p 0) 1
+            ≡ ((t && (eqb (getD xs (i * 3) 0) p || eqb (getD xs (i * 3 + 1) 0) p)) || d)
         go true =
-            set-one (set ends (getD xs (3 * i) 0) 1) (getD xs (3 * i + 1) 0) p (rw length-set below)
-            ∙ ap (λ (b : Bool). eqb (getD xs (3 * i + 1) 0) p || b) (set-one ends (getD xs (3 * i) 0) p below ∙ ap (λ (b : Bool). eqb (getD xs (3 * i) 0) p || b) e)
-            ∙ either-end (eqb (getD xs (3 * i) 0) p) (eqb (getD xs (3 * i + 1) 0) p) d
+            set-one (set ends (getD xs (i * 3) 0) 1) (getD xs (i * 3 + 1) 0) p (rw length-set below)
+            ∙ ap (λ (b : Bool). eqb (getD xs (i * 3 + 1) 0) p || b) (set-one ends (getD xs (i * 3) 0) p below ∙ ap (λ (b : Bool). eqb (getD xs (i * 3) 0) p || b) e)
+            ∙ either-end (eqb (getD xs (i * 3) 0) p) (eqb (getD xs (i * 3 + 1) 0) p) d
         go false = e
 
     with-size : (i : ℕ) (ends : List ℕ) → length (with-arc i ends) ≡ length ends
     with-size i ends = go (eqb (getD ms (h .nodes + i) 0) 1)
       where
-        go : (t : Bool) → length (pick t (set (set ends (getD xs (3 * i) 0) 1) (getD xs (3 * i + 1) 0) 1) ends) ≡ length ends
+        go : (t : Bool) → length (pick t (set (set ends (getD xs (i * 3) 0) 1) (getD xs (i * 3 + 1) 0) 1) ends) ≡ length ends
         go true = simp length-set
         go false = refl
 

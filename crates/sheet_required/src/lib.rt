@@ -43,8 +43,8 @@ pub fn ends_of(header: Header, arcs: &[u32], marks: &[u8]) -> [u8; NODES]
         mark_ends(
             &mut ends,
             marks[header.nodes + j],
-            arcs[3 * j],
-            arcs[3 * j + 1],
+            arcs[j * 3],
+            arcs[j * 3 + 1],
         );
     }
     ends
@@ -78,7 +78,8 @@ fn note_node(list: &mut [usize], count: usize, node: usize)
 // Gives how many required nodes there are (document 01: counted stops) and writes as many of them, ascending, over the front of `list` as it has room for.
 pub fn required_nodes(header: Header, arcs: &[u32], marks: &[u8], list: &mut [usize]) -> usize
     requires { ⌜ Held header (now arcs) (now marks) × (header .nodes ≤ 64) ⌝ }
-    ensures { λ r. let S = sheetOf header (now (arcs .entry)) (now (marks .entry)) in ⌜ RoomListed (required S) (now (list .entry)) (now (list .exit)) r ⌝ }
+    ensures { λ r. let S = sheetOf header (now (arcs .entry)) (now (marks .entry)) in
+        ⌜ RoomListed (required S) (now (list .entry)) (now (list .exit)) r ⌝ }
 {
     let ends = ends_of(header, arcs, marks);
     let mut count: usize = 0;

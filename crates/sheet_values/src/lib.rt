@@ -4,9 +4,9 @@ ghost use Prim.Native.Nat.{_≤_};
 ghost use lib.ListN.{length, drop};
 ghost use lib.Dec.{ltb};
 ghost use Rattle.lists.specs.Lists.{front};
-ghost use Rattle.varint.specs.Varint.{number, several};
+ghost use Rattle.varint.specs.Varint.{number};
 ghost use Rattle.sheet.specs.Reader.{readMark};
-ghost use Rattle.numbers.specs.Answer.{sectionOf};
+ghost use Rattle.numbers.specs.Answer.{SectionIs};
 ghost use Rattle.numbers.specs.Begun.{begun};
 ghost use Rattle.sheet_values.specs.Values.{judgedOf, nextOf};
 use numbers::SectionRead;
@@ -41,7 +41,7 @@ pub fn judged_at(sheet: &[u8], at: usize, end: u32, why: u32) -> ValueRead
 // Reads the marks that stand from `from` on and stores each over the front of `marks`.
 pub fn marks_in(section: &[u8], from: usize, count: usize, marks: &mut [u8]) -> SectionRead
     requires { ⌜ count ≤ length (now marks) ⌝ }
-    ensures { λ r. ⌜ sectionOf (now (section .entry)) (begun readMark count (drop from (now (section .entry)))) r ≡ several readMark count (drop from (now (section .entry))) ⌝ }
+    ensures { λ r. ⌜ SectionIs (now (section .entry)) readMark count (drop from (now (section .entry))) r ⌝ }
     ensures { λ _. ⌜ now (marks .exit) ≡ front (begun readMark count (drop from (now (section .entry)))) (now (marks .entry)) ⌝ }
 {
     let mut at = from;

@@ -45,7 +45,8 @@ pub fn put_stands(out: &mut [u8], struck: &[usize]) -> usize
 
 // Writes the text of a refused round.
 pub fn put_blame(out: &mut [u8], first: usize, goals: &[usize], reasons: &[usize]) -> usize
-    requires { ⌜ (first < 5) × (small (now goals) ≡ true) × (small (now reasons) ≡ true) × (length (blameText (slipFrom first (now goals) (now reasons))) ≤ length (now out)) ⌝ }
+    requires { let text = blameText (slipFrom first (now goals) (now reasons)) in
+        ⌜ (first < 5) × (small (now goals) ≡ true) × (small (now reasons) ≡ true) × (length text ≤ length (now out)) ⌝ }
     ensures { λ r. ⌜ Put (blameText (slipFrom first (now (goals .entry)) (now (reasons .entry)))) (now (out .entry)) (now (out .exit)) r ⌝ }
 {
     let verdict = [first];

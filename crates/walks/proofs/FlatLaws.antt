@@ -43,9 +43,5 @@ arc-at (t ∷ h ∷ w ∷ xs) (suc i) q =
     let p₂ : suc i * 3 + 2 ≡ suc (suc (suc (i * 3 + 2))) = omega arith in
     rw (p₁, p₂, p) (arc-at xs i (omega arith))
 
-pub arc-in : (xs : List ℕ) (l : ℕ) → 3 * l + 2 < length xs
-    → getD (arcsOf xs) l noArc ≡ record { tail = getD xs (3 * l) 0; head = getD xs (3 * l + 1) 0; weight = getD xs (3 * l + 2) 0 }
-arc-in xs l q = let e : 3 * l ≡ l * 3 = omega arith in rw e (arc-at xs l (omega arith))
-
 pub arcs-many : (xs : List ℕ) (m : ℕ) → length xs ≡ 3 * m → length (arcsOf xs) ≡ m
 arcs-many xs m q = let e = arcs-count xs in omega (arith, e)

@@ -6,12 +6,11 @@ ghost use lib.ListN.{length};
 ghost use Rattle.libc.specs.Io.{Moved};
 use libc::STDIN_FILENO;
 use libc::STDOUT_FILENO;
+use work::WORK_NUMBERS;
 
 const INPUT_BYTES: usize = 8192;
 
 const TEXT_BYTES: usize = 8192;
-
-const WORK_NUMBERS: usize = 16384;
 
 // Reads until `input` is full or standard input ends, and answers how many bytes are then at its start, or -1 where a read failed: a sheet of which only
 // a part could be read is not judged. Which bytes are read no contract can say.

@@ -1,4 +1,4 @@
--- `answers::refused` meets its contract. Assumes nothing.
+-- `check_answer::refused` meets its contract. Assumes nothing.
 use mathlib.Core.Path.{refl}
 use Rattle.check_answer.specs.Answer.{checkAnswerOf}
 use Rattle.check_answer.proofs.refused.Statement.{statement}

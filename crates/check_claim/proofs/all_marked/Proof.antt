@@ -1,4 +1,4 @@
--- `claim::all_marked` meets its contract. The invariant: all have the mark where those from i on have it. Assumes nothing.
+-- `check_claim::all_marked` meets its contract. The invariant: all have the mark where those from i on have it. Assumes nothing.
 use Prim.Native.Nat.{_-_, _≤_}
 use mathlib.Core.Path.{_≡_, refl, sym, _∙_}
 use native.Mathlib.Omega.{arith}

@@ -1,4 +1,4 @@
--- `claim::closing` meets its contract. The invariant: the items from i on are closed. Assumes nothing.
+-- `check_claim::closing` meets its contract. The invariant: the items from i on are closed. Assumes nothing.
 use native.Mathlib.Omega.{arith}
 use Rattle.check_claim.proofs.ClosingLaws.{ClosingFrom, entry-member, closing-begun, closing-more, closing-done}
 use Rattle.check_claim.proofs.closing.Statement.{statement}

@@ -1,4 +1,4 @@
--- `claim::count_fits` meets its contract, case by case. Assumes nothing.
+-- `check_claim::count_fits` meets its contract, case by case. Assumes nothing.
 use borrow.Author.Tests.{eq-eqb, ne-eqb, le-leb, lt-leb}
 use Rattle.check_rules.specs.Check.{goalCount}
 use Rattle.check_claim.proofs.count_fits.Statement.{statement}

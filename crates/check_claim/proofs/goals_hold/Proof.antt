@@ -1,4 +1,4 @@
--- `claim::goals_hold` meets its contract, by the first number. Assumes nothing.
+-- `check_claim::goals_hold` meets its contract, by the first number. Assumes nothing.
 use mathlib.Core.Path.{_∙_}
 use borrow.Author.Tests.{eq-eqb, ne-eqb}
 use Rattle.sheet_required.specs.Held.{sheetOf}

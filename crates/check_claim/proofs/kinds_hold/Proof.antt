@@ -1,4 +1,4 @@
--- `claim::kinds_hold` meets its contract. Assumes nothing.
+-- `check_claim::kinds_hold` meets its contract. Assumes nothing.
 use mathlib.Core.Path.{sym, _∙_}
 use Rattle.sheet.specs.Sheet.{isForbidden}
 use Rattle.check_claim.proofs.GoalLaws.{both-kinds, one-kind}

@@ -1,4 +1,4 @@
--- `claim::mark_of` meets its contract. Assumes nothing.
+-- `check_claim::mark_of` meets its contract. Assumes nothing.
 use borrow.Author.Needs.{needs}
 use mathlib.Core.Path.{sym}
 use lib.ListN.{List·getD-eq-default}

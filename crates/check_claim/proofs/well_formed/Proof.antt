@@ -1,4 +1,4 @@
--- `claim::well_formed` meets its contract: the tests in their order, the first that fails decides. Assumes nothing.
+-- `check_claim::well_formed` meets its contract: the tests in their order, the first that fails decides. Assumes nothing.
 use mathlib.Core.Path.{refl}
 use mathlib.Core.Bool.{true, false}
 use borrow.Author.Tests.{eq-eqb, ne-eqb}

@@ -1,4 +1,4 @@
--- `fits::fill_rows` meets its contract: the first 64 numbers are the row from the source, the others the row to the target. Assumes nothing.
+-- `item_fits::fill_end_rows` meets its contract: the first 64 numbers are the row from the source, the others the row to the target. Assumes nothing.
 use mathlib.Core.Path.{sym, _∙_}
 use native.Mathlib.Omega.{arith}
 use lib.Seq.{length-take-le}

@@ -1,4 +1,4 @@
--- `fits::fits_item` meets its contract: the two sums are the least length through the item. Assumes nothing.
+-- `item_fits::fits_item` meets its contract: the two sums are the least length through the item. Assumes nothing.
 use native.Mathlib.Omega.{arith}
 use Rattle.item_fits.proofs.FitLaws.{item-fits, row-at, back-at}
 use borrow.Author.Needs.{needs}

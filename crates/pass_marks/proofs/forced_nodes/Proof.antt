@@ -1,4 +1,4 @@
--- `marking::forced_nodes` meets its contract. Assumes nothing.
+-- `pass_marks::forced_nodes` meets its contract. Assumes nothing.
 use Rattle.sheet_required.specs.Held.{sheetOf}
 use Rattle.pass_marks.proofs.MarkingLaws.{forced-are}
 use borrow.Author.Needs.{needs}

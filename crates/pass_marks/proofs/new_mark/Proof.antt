@@ -1,4 +1,4 @@
--- `marking::new_mark` meets its contract, case by case. Assumes nothing.
+-- `pass_marks::new_mark` meets its contract, case by case. Assumes nothing.
 use mathlib.Core.Path.{refl, sym, _∙_}
 use mathlib.Core.Bool.{true, false}
 use borrow.Author.Tests.{eq-eqb, ne-eqb, not-true, not-false}

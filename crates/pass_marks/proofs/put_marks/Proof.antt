@@ -1,4 +1,4 @@
--- `marking::put_marks` meets its contract. The invariant: the marks below i stand in front. Assumes nothing.
+-- `pass_marks::put_marks` meets its contract. The invariant: the marks below i stand in front. Assumes nothing.
 use Prim.Native.Nat.{_+_, _-_}
 use mathlib.Core.Path.{refl, sym}
 use native.Mathlib.Omega.{arith}

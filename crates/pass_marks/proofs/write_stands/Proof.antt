@@ -1,4 +1,4 @@
--- `marking::write_stands` meets its contract: the marks are put behind the number 0. Assumes nothing.
+-- `pass_marks::write_stands` meets its contract: the marks are put behind the number 0. Assumes nothing.
 use mathlib.Core.Path.{_∙_}
 use native.Mathlib.Omega.{arith}
 use Prim.Native.Nat.{_-_}

@@ -1,4 +1,4 @@
--- `judge::first_unmet` meets its contract. The invariant: none of the items passed is unmet. Assumes nothing.
+-- `pass_verdict::first_unmet` meets its contract. The invariant: none of the items passed is unmet. Assumes nothing.
 use Prim.Native.Nat.{ℕ, _+_, _-_, _≤_, _<_}
 use mathlib.Core.Path.{_≡_, sym, _∙_}
 use mathlib.Core.Bool.{false, not, _&&_}

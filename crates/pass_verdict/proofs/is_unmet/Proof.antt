@@ -1,4 +1,4 @@
--- `judge::is_unmet` meets its contract. Assumes nothing.
+-- `pass_verdict::is_unmet` meets its contract. Assumes nothing.
 use Rattle.sheet.specs.Sheet.{markOf}
 use Rattle.sheet_required.specs.Held.{sheetOf}
 use Rattle.pass_verdict.proofs.JudgeLaws.{unmet-true, unmet-false}

@@ -1,4 +1,4 @@
--- `row_reopen::entering` meets its contract: The loop's invariant: the tails of the arcs below `i` that enter the node are active. Assumes nothing.
+-- `row_reopen::entering` meets its contract. The loop's invariant: the tails of the arcs below `i` that enter the node are active. Assumes nothing.
 use Prim.Native.Nat.{_-_, _≤_}
 use mathlib.Core.Path.{_≡_}
 use mathlib.Core.Logic.{inl, inr, ⊎-elim}
