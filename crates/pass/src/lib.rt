@@ -22,7 +22,7 @@ use walks::GOALS;
 use walks::ITEMS;
 use work::WORK_NUMBERS;
 
-// What a slip has room for.
+// The bytes of a slip that an operation asks for.
 pub const SLIP_BYTES: usize = 1200;
 
 // The verdict that no walk meets all goals at once.

@@ -20,6 +20,12 @@ pub record Shaped (c : ℕ) (packed : List ℕ) : Type 0 where
   pub joins : Joins 64 (take (c * 3) packed)
   pub chained : Chained (take (c * 3) packed) (drop 1536 packed)
 
+-- arc c put in front of its tail's chain
+abbrev pub putOn : List ℕ → ℕ → List ℕ
+putOn packed c =
+    let u = getD packed (c * 3) 0 in
+    set (set packed (1536 + 64 + c) (getD packed (1536 + u) 0)) (1536 + u) (c + 1)
+
 -- arc c, the last one, taken off its tail's chain
 abbrev pub takenOff : List ℕ → ℕ → List ℕ
 takenOff packed c = set packed (1536 + getD packed (c * 3) 0) (getD packed (1600 + c) 0)

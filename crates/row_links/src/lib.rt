@@ -2,8 +2,9 @@
 ghost use mathlib.Core.Path.{_≡_};
 ghost use Prim.Native.Nat.{_+_, _*_, _≤_, _<_};
 ghost use lib.ListN.{length, getD, take, drop};
-ghost use Rattle.rows.specs.Net.{netOf, arcCount, Proper};
-ghost use Rattle.row_links.specs.Links.{Linked, takenOff, PackOpened};
+ghost use Rattle.rows.specs.Net.{netOf, arcCount, tailIn, Proper, Joins};
+ghost use Rattle.row_spread.specs.Arcs.{ChainedBy};
+ghost use Rattle.row_links.specs.Links.{Linked, putOn, takenOff, PackOpened};
 use row_spread::CHAIN_NUMBERS;
 use rows::ROW_LENGTH;
 use walks::ARC_NUMBERS;
@@ -16,15 +17,32 @@ pub const CHAINS: usize = ARC_NUMBERS;
 // The numbers of the packed arcs and their chains.
 pub const LINK_NUMBERS: usize = CHAINS + CHAIN_NUMBERS;
 
-// Writes the chains behind the packed arcs.
-fn put_chains(packed: &mut [u32], chains: &[u32])
-    requires { ⌜ (length (now packed) ≡ 2112) × (length (now chains) ≡ 576) ⌝ }
-    ensures { λ _. ⌜ (take 1536 (now (packed .exit)) ≡ take 1536 (now (packed .entry))) × (drop 1536 (now (packed .exit)) ≡ now (chains .entry)) ⌝ }
+// Puts the arc in front of its tail's chain.
+fn put_on(packed: &mut [u32], arc: usize)
+    requires { ⌜ (length (now packed) ≡ 2112) × (arc < 512) × (getD (now packed) (arc * 3) 0 < 64) ⌝ }
+    ensures { λ _. ⌜ now (packed .exit) ≡ putOn (now (packed .entry)) arc ⌝ }
 {
-    let mut i = 0;
-    while i < chains.len() {
-        packed[CHAINS + i] = chains[i];
-        i += 1;
+    let chain = CHAINS + packed[arc * 3] as usize;
+    packed[CHAINS + ROW_LENGTH + arc] = packed[chain];
+    packed[chain] = arc as u32 + 1;
+}
+
+// Chains the `count` first arcs, whatever stands behind them.
+fn chain_all(packed: &mut [u32], count: usize)
+    requires { ⌜ (length (now packed) ≡ 2112) × (count ≤ 512) × Joins 64 (take (count * 3) (now packed)) ⌝ }
+    ensures { λ _.
+        let ps = now (packed .entry) in
+        ⌜ (take 1536 (now (packed .exit)) ≡ take 1536 ps) × ChainedBy (tailIn ps) count (drop 1536 (now (packed .exit))) ⌝ }
+{
+    let mut node = 0;
+    while node < ROW_LENGTH {
+        packed[CHAINS + node] = 0;
+        node += 1;
+    }
+    let mut arc = 0;
+    while arc < count {
+        put_on(packed, arc);
+        arc += 1;
     }
 }
 
@@ -34,9 +52,7 @@ pub fn pack_all(nodes: usize, arcs: &[u32], marks: &[u8], packed: &mut [u32]) ->
     ensures { λ r. ⌜ Linked (netOf nodes (now (arcs .entry)) (now (marks .entry))) r (now (packed .exit)) ⌝ }
 {
     let count = row_arcs::pack(nodes, arcs, marks, packed) / 3;
-    let used = count * 3;
-    let chains = row_spread::chained(&packed[..used]);
-    put_chains(packed, &chains);
+    chain_all(packed, count);
     count
 }
 
@@ -53,18 +69,15 @@ fn add_arc(
     ensures { λ r. ⌜ PackOpened nodes (now (arcs .entry)) (now (marks .entry)) (nodes + arc) count (now (packed .entry)) (now (packed .exit)) r ⌝ }
 {
     let at = arc * 3;
-    let tail = arcs[at];
     let head = arcs[at + 1];
     if marks[head as usize] == FORBIDDEN {
         return count;
     }
     let to = count * 3;
-    packed[to] = tail;
+    packed[to] = arcs[at];
     packed[to + 1] = head;
     packed[to + 2] = arcs[at + 2];
-    let chain = CHAINS + tail as usize;
-    packed[CHAINS + ROW_LENGTH + count] = packed[chain];
-    packed[chain] = count as u32 + 1;
+    put_on(packed, count);
     count + 1
 }
 

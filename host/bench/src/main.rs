@@ -2,13 +2,13 @@
 //!
 //!     cargo run --release -p bench
 //!
-//! With `WAYS_BEFORE` set to the path of an earlier `libplanner.a`, that one takes its turns too, and the last column is the present library's time in terms of
-//! the earlier one's.
+//! With `WAYS_BEFORE` set to the path of an earlier `libplanner.a`, that one takes its turns too, both loaded alike, and the last column is the present
+//! library's time in terms of the earlier one's.
 
-mod before;
+mod loaded;
 mod sheets;
 
-use before::Before;
+use loaded::Loaded;
 use sheets::{standard, Operation, Standard};
 use std::hint::black_box;
 use std::path::Path;
@@ -29,7 +29,7 @@ struct Lent {
 enum Timed {
     Library,
     Reference,
-    Before(Before),
+    Loaded(Loaded),
 }
 
 impl Timed {
@@ -42,9 +42,9 @@ impl Timed {
             (Timed::Reference, Operation::Pass) => reference::pass(sheet, work, slip),
             (Timed::Reference, Operation::Reason(item)) => reference::reason(sheet, work, slip, *item),
             (Timed::Reference, Operation::Check(slip)) => reference::check(sheet, work, slip),
-            (Timed::Before(before), Operation::Pass) => before.pass(sheet, work, slip),
-            (Timed::Before(before), Operation::Reason(item)) => before.reason(sheet, work, slip, *item),
-            (Timed::Before(before), Operation::Check(slip)) => before.check(sheet, work, slip),
+            (Timed::Loaded(loaded), Operation::Pass) => loaded.pass(sheet, work, slip),
+            (Timed::Loaded(loaded), Operation::Reason(item)) => loaded.reason(sheet, work, slip, *item),
+            (Timed::Loaded(loaded), Operation::Check(slip)) => loaded.check(sheet, work, slip),
         }
     }
 }
@@ -91,9 +91,11 @@ fn time(all: &[Timed], standard: &Standard, lent: &mut Lent) -> Vec<f64> {
     compare(all, standard, lent);
     let calls: Vec<u32> = all.iter().map(|timed| warm_up(timed, standard, lent)).collect();
     let mut samples = vec![vec![]; all.len()];
-    for _ in 0..SAMPLES {
-        for (at, timed) in all.iter().enumerate() {
-            samples[at].push(sample(timed, standard, lent, calls[at]));
+    for turn in 0..SAMPLES {
+        for step in 0..all.len() {
+            // there and back again: a call is quicker or slower by what ran before it
+            let at = if turn % 2 == 0 { step } else { all.len() - 1 - step };
+            samples[at].push(sample(&all[at], standard, lent, calls[at]));
         }
     }
     samples.into_iter().map(median).collect()
@@ -104,7 +106,8 @@ fn main() {
     let mut all = vec![Timed::Library, Timed::Reference];
     let before = std::env::var_os("WAYS_BEFORE");
     if let Some(archive) = &before {
-        all.push(Timed::Before(Before::load(Path::new(archive))));
+        all[0] = Timed::Loaded(Loaded::load("present", Path::new(ways::ARCHIVE)));
+        all.push(Timed::Loaded(Loaded::load("before", Path::new(archive))));
     }
     let (head, rule) = if before.is_some() { (" before, µs | ratio |", "---:|---:|") } else { ("", "") };
     println!("| operation | sheet | library, µs | reference, µs | ratio |{head}");

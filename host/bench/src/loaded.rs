@@ -1,4 +1,5 @@
-//! An earlier archive of the library, to be timed beside the present one: made a shared object by `cc` and loaded, so that the names of both can be the same.
+//! An archive of the library made a shared object by `cc` and loaded, so that two can be timed in one run though their names are the same. Both are loaded
+//! alike: where a linker puts the code changes the time of some sheets by a third.
 
 use std::ffi::{c_char, c_int, c_void, CString};
 use std::path::Path;
@@ -16,17 +17,18 @@ type Call = unsafe extern "C" fn(*const u8, usize, *mut u8, usize, *mut u8, usiz
 type CallItem = unsafe extern "C" fn(*const u8, usize, *mut u8, usize, *mut u8, usize, u32) -> u32;
 type CallSlip = unsafe extern "C" fn(*const u8, usize, *mut u8, usize, *const u8, usize) -> u32;
 
-/// The three functions of the earlier library.
+/// The three functions of the library.
 #[derive(Clone, Copy)]
-pub struct Before {
+pub struct Loaded {
     pass: Call,
     reason: CallItem,
     check: CallSlip,
 }
 
-impl Before {
-    pub fn load(archive: &Path) -> Before {
-        let object = std::env::temp_dir().join(format!("ways-before-{}.so", std::process::id()));
+impl Loaded {
+    /// Objects of one name would be taken for one.
+    pub fn load(name: &str, archive: &Path) -> Loaded {
+        let object = std::env::temp_dir().join(format!("ways-{name}-{}.so", std::process::id()));
         let made = Command::new("cc")
             .args(["-shared", "-Wl,-Bsymbolic", "-o"])
             .arg(&object)
@@ -46,7 +48,7 @@ impl Before {
             found
         };
         unsafe {
-            Before {
+            Loaded {
                 pass: std::mem::transmute::<*mut c_void, Call>(find("ways_pass")),
                 reason: std::mem::transmute::<*mut c_void, CallItem>(find("ways_reason")),
                 check: std::mem::transmute::<*mut c_void, CallSlip>(find("ways_check")),
