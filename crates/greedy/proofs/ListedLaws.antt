@@ -15,7 +15,7 @@ use Rattle.goal_table.specs.Table.{Rowed}
 use Rattle.walks.proofs.FlatLaws.{arcs-count}
 use Rattle.reason_list.specs.Reasons.{reasons}
 use Rattle.reason_list.proofs.ReasonLaws.{reasons-alike}
-use Rattle.greedy_turn.specs.Turns.{Task, map, source, items, Setting, State, Turned}
+use Rattle.greedy_turn.specs.Turns.{Task, map, source, taskItems, Setting, State, Turned}
 use Rattle.greedy.specs.Listing.{PutDown}
 use Rattle.lists.specs.Lists.{Put}
 use Rattle.greedy.proofs.ListingLaws.{Listing, begun, passed-on, left-open, put-down, ended}
@@ -39,7 +39,7 @@ going-begun {T} {marks} list S A = record {
 
 module _ {T : Task} {marks₀ list₀ : List ℕ} {i : ℕ} {marks list : List ℕ} {m : ℕ} {packed : List ℕ} {c : ℕ} {work : List ℕ}
     (W : Going T marks₀ list₀ i marks list m packed c work) where
-  pub going-more : {marks′ list′ : List ℕ} {m′ : ℕ} {packed′ : List ℕ} {c′ : ℕ} {work′ : List ℕ} {listed : Bool} → i < items T → items T ≤ length list₀
+  pub going-more : {marks′ list′ : List ℕ} {m′ : ℕ} {packed′ : List ℕ} {c′ : ℕ} {work′ : List ℕ} {listed : Bool} → i < taskItems T → taskItems T ≤ length list₀
       → Turned T marks i marks′ listed → State T marks′ packed′ c′ work′ → PutDown list m i listed list′ m′
       → Going T marks₀ list₀ (i + 1) marks′ list′ m′ packed′ c′ work′
   going-more {marks′} {list′} {m′} {listed = listed} h room R A P = record { setting = W .setting; state = A; listing = go (closedIn marks i) refl listed refl }
@@ -62,10 +62,10 @@ module _ {T : Task} {marks₀ list₀ : List ℕ} {i : ℕ} {marks list : List �
           rw (t .1, d .0, d .1, q)
           (put-down (map T) (source T) (T .to) (T .cap) (T .goals) marks₀ list₀ below (W .listing) p (t .0 ∙ q) (omega (arith, items-are (T .nodes) (T .arcs))))
 
-  pub going-room : items T ≤ length list₀ → i < items T → length list ≡ length list₀ → m < length list
+  pub going-room : taskItems T ≤ length list₀ → i < taskItems T → length list ≡ length list₀ → m < length list
   going-room h k l = omega (arith, W .listing .few)
 
-  pub going-done : {from : ℕ} {goals : List ℕ} → source T ≡ from → T .goals ≡ goals → i ≡ items T
+  pub going-done : {from : ℕ} {goals : List ℕ} → source T ≡ from → T .goals ≡ goals → i ≡ taskItems T
       → Put (reasons (map T) from (T .to) (T .cap) goals marks₀) list₀ list m
   going-done e g q =
       let w = ended (map T) (source T) (T .to) (T .cap) (T .goals) marks₀ list₀ (q ∙ sym (items-are (T .nodes) (T .arcs))) (W .listing) in

@@ -31,7 +31,7 @@ use Rattle.row_save.specs.Kept.{RowsBack}
 use Rattle.row_save.specs.Unmoved.{Unmoved}
 use Rattle.row_links.specs.Links.{Linked}
 use Rattle.row_reopen.specs.Openings.{Opened, ItemOpened}
-use Rattle.greedy_turn.specs.Turns.{Task, map, net, source, items, Setting, fitsAt, Told, NotedBeside, RowsFor, Ready, InTurn, TurnJudged, State, Turned}
+use Rattle.greedy_turn.specs.Turns.{Task, map, net, source, taskItems, Setting, fitsAt, Told, NotedBeside, RowsFor, Ready, InTurn, TurnJudged, State, Turned}
 use Rattle.greedy_turn.proofs.SameLaws.{Same, Alike, goals-same}
 
 own-same : (G : Graph) (old : List ℕ) (i g : ℕ) → (g ≡ i → ⊥) → ownOf G (closedIn (set old i 0)) g ≡ ownOf G (closedIn old) g
@@ -43,7 +43,7 @@ abbrev pub Stop : Task → List ℕ → List ℕ → ℕ → Type 0
 Stop T before after b = (b < T .nodes) × ((j : ℕ) → j < length (T .starts) → getD before (j * 64 + b) 0 ≡ getD after (j * 64 + b) 0)
 
 module _ {T : Task} (S : Setting T) where
-  pub set-proper : (marks : List ℕ) → items T ≤ length marks → Proper (net T marks)
+  pub set-proper : (marks : List ℕ) → taskItems T ≤ length marks → Proper (net T marks)
   set-proper marks h = record { few = S .few; marked = h; tails = λ i k. S .joins i k .0; heads = λ i k. S .joins i k .1 }
 
   pub set-goals : (marks : List ℕ) → GoalsFit (net T marks) (T .goals)
@@ -52,7 +52,7 @@ module _ {T : Task} (S : Setting T) where
   pub set-nodes : (i : ℕ) → i < length (T .starts) → getD (T .starts) i 0 < T .nodes
   set-nodes i h = S .begin .inside i (omega (arith, S .counted))
 
-  pub set-fit : (marks work : List ℕ) → items T ≤ length marks → 576 ≤ length work → StartsFit marks (T .starts) work
+  pub set-fit : (marks work : List ℕ) → taskItems T ≤ length marks → 576 ≤ length work → StartsFit marks (T .starts) work
   set-fit marks work m w = record {
     places = λ i h. omega (arith, set-nodes i h, S .few);
     marked = λ i h. omega (arith, set-nodes i h);
@@ -117,7 +117,7 @@ noted-kept N cap goals work after eight e E = record {
 }
 
 -- the marks with the item open, as the code has them
-pub opening : {T : Task} → Setting T → (old : List ℕ) {i : ℕ} {marks ys : List ℕ} → marks ≡ set old i 0 → items T ≤ length marks → i < items T
+pub opening : {T : Task} → Setting T → (old : List ℕ) {i : ℕ} {marks ys : List ℕ} → marks ≡ set old i 0 → taskItems T ≤ length marks → i < taskItems T
     → Packed (net T marks) ys → Opened (T .nodes) (T .arcs) old i marks ys (T .starts)
 opening S old {i} e m h P = record {
   proper = set-proper S old (omega (arith, ap length e, length-set old i 0));
@@ -193,7 +193,7 @@ module _ {T : Task} {marks packed : List ℕ} {c : ℕ} {work : List ℕ} (S : S
       let e = entry-below (net T marks) (getD (T .goals) j 0) (set-proper S marks (A .marked)) (S .below j h) in
       omega (arith, A .ready .noted .entries j h, S .few)
 
-  pub in-turn : {packed′ : List ℕ} {c′ : ℕ} → i < items T → Linked (net T (set marks i 0)) c′ packed′ → InTurn T i (set marks i 0) packed′ c′ work
+  pub in-turn : {packed′ : List ℕ} {c′ : ℕ} → i < taskItems T → Linked (net T (set marks i 0)) c′ packed′ → InTurn T i (set marks i 0) packed′ c′ work
   in-turn h L = record { below = h; marked = simp length-set (A .marked); links = L; long = A .long; entered = entries-below }
 
   pub state-opened : {packed′ work′ : List ℕ} {c′ : ℕ} → length work′ ≡ length work → Linked (net T (set marks i 0)) c′ packed′

@@ -43,8 +43,8 @@ net T marks = netOf (T .nodes) (T .arcs) marks
 abbrev pub source : Task → ℕ
 source T = getD (T .starts) 0 0
 
-abbrev pub items : Task → ℕ
-items T = T .nodes + arcCount (T .arcs)
+abbrev pub taskItems : Task → ℕ
+taskItems T = T .nodes + arcCount (T .arcs)
 
 -- the ends are nodes, the goals different items of the graph, at most 8, and the rows start at the source and where each goal is left
 pub record Setting (T : Task) : Type 0 where
@@ -54,7 +54,7 @@ pub record Setting (T : Task) : Type 0 where
   pub joins : Joins (T .nodes) (T .arcs)
   pub target : T .to < T .nodes
   pub eight : length (T .goals) ≤ 8
-  pub below : (i : ℕ) → i < length (T .goals) → getD (T .goals) i 0 < items T
+  pub below : (i : ℕ) → i < length (T .goals) → getD (T .goals) i 0 < taskItems T
   pub distinct : Distinct (T .goals)
   pub begin : StartsAre (map T) (source T) (T .goals) (T .starts)
   pub counted : length (T .starts) ≡ length (T .goals) + 1
@@ -83,8 +83,8 @@ pub record Ready (T : Task) (marks work : List ℕ) : Type 0 where
 
 -- while item i is open: the open arcs are linked, and the work tells where each goal is entered
 pub record InTurn (T : Task) (i : ℕ) (marks packed : List ℕ) (c : ℕ) (work : List ℕ) : Type 0 where
-  pub below : i < items T
-  pub marked : items T ≤ length marks
+  pub below : i < taskItems T
+  pub marked : taskItems T ≤ length marks
   pub links : Linked (net T marks) c packed
   pub long : length work ≡ scratchNumbers
   pub entered : Entered (length (T .goals)) work
@@ -101,7 +101,7 @@ Judges T i marks work after r = (old : List ℕ) → marks ≡ set old i 0 → R
 
 -- what holds whenever the next item is taken: the open arcs are linked, the work is ready, and no walk fits
 pub record State (T : Task) (marks packed : List ℕ) (c : ℕ) (work : List ℕ) : Type 0 where
-  pub marked : items T ≤ length marks
+  pub marked : taskItems T ≤ length marks
   pub links : Linked (net T marks) c packed
   pub long : length work ≡ scratchNumbers
   pub ready : Ready T marks work

@@ -11,7 +11,7 @@ ghost use Rattle.rows.specs.Rows.{scratchNumbers};
 ghost use Rattle.row_save.specs.Unmoved.{Entered, Unmoved};
 ghost use Rattle.row_links.specs.Links.{Linked, Shaped, takenOff};
 ghost use Rattle.goal_table.specs.Table.{GoalsFit};
-ghost use Rattle.greedy_turn.specs.Turns.{taskOf, items, Setting, Told, NotedBeside, Judges, InTurn, State, Turned};
+ghost use Rattle.greedy_turn.specs.Turns.{taskOf, taskItems, Setting, Told, NotedBeside, Judges, InTurn, State, Turned};
 use lengths::Query;
 use row_reopen::Opening;
 use walks::FORBIDDEN;
@@ -168,7 +168,7 @@ pub fn take_turn(
     work: &mut [u32],
 ) -> TurnEnd
     requires { let T = taskOf (turn .nodes) (now arcs) (turn .to) (turn .cap) (turn .rows) (now places) in
-        ⌜ Setting T × (turn .item < items T) × (turn .rows ≤ length (now places)) ⌝ }
+        ⌜ Setting T × (turn .item < taskItems T) × (turn .rows ≤ length (now places)) ⌝ }
     requires { let T = taskOf (turn .nodes) (now arcs) (turn .to) (turn .cap) (turn .rows) (now places) in
         ⌜ State T (now marks) (now packed) (turn .count) (now work) ⌝ }
     ensures { λ r.

@@ -127,7 +127,7 @@ pub fn write_answer(
 }
 
 // The same with a scratch of its own, which is made no sooner than the sheet is known to be good.
-fn answer_taken(header: Header, arcs: &[u32], marks: &[u8], slip: &mut [u8]) -> usize
+fn write_taken(header: Header, arcs: &[u32], marks: &[u8], slip: &mut [u8]) -> usize
     requires { ⌜ Whole header (now arcs) (now marks) × (1200 ≤ length (now slip)) ⌝ }
     ensures { λ r. let S = sheetOf header (now (arcs .entry)) (now (marks .entry)) in
         ⌜ Put (passSlip S (verdictOf S)) (now (slip .entry)) (now (slip .exit)) r ⌝ }
@@ -155,7 +155,7 @@ pub fn pass_sheet(sheet: &[u8], slip: &mut [u8]) -> Answer
     let items = header.nodes + header.arcs;
     Answer {
         number: 0,
-        length: answer_taken(header, &arcs[..numbers], &marks[..items], slip),
+        length: write_taken(header, &arcs[..numbers], &marks[..items], slip),
     }
 }
 

@@ -42,23 +42,23 @@ add-items c = let W = loaded (c .before .before .before) .whole in omega (arith,
 array-share-prefix-arcs : tie.Need-array-share-prefix-arcs
 array-share-prefix-arcs c = omega (arith, loaded (c .before .before .before) .whole .few, c .before .before .before .before .before .before .before .read .kept .1 .0)
 
-slice-aggregate-answer-taken : tie.Need-slice-aggregate-answer-taken
-slice-aggregate-answer-taken c = sym (loaded (c .before .before .before .before) .whole .held .0)
+slice-aggregate-write-taken : tie.Need-slice-aggregate-write-taken
+slice-aggregate-write-taken c = sym (loaded (c .before .before .before .before) .whole .held .0)
 
 array-share-prefix-marks : tie.Need-array-share-prefix-marks
 array-share-prefix-marks c = let W = loaded (c .before .before .before .before) .whole in omega (arith, W .few, W .proper .few, c .before .before .before .before .before .before .before .before .read .kept .1 .1 .0)
 
-slice-aggregate-answer-taken-2 : tie.Need-slice-aggregate-answer-taken-2
-slice-aggregate-answer-taken-2 c = sym (loaded (c .before .before .before .before .before) .whole .held .1)
+slice-aggregate-write-taken-2 : tie.Need-slice-aggregate-write-taken-2
+slice-aggregate-write-taken-2 c = sym (loaded (c .before .before .before .before .before) .whole .held .1)
 
-answer-taken-requires : tie.Need-answer-taken-requires
-answer-taken-requires c κs = (loaded (c .before .before .before .before .before .before) .whole, c .before .before .before .before .before .before .before .before .before .before .before .before .before .before .before .pre)
+write-taken-requires : tie.Need-write-taken-requires
+write-taken-requires c κs = (loaded (c .before .before .before .before .before .before) .whole, c .before .before .before .before .before .before .before .before .before .before .before .before .before .before .before .pre)
 
 same-length : tie.Need-same-length
 same-length c = search needs
 
 returns-2 : tie.Need-returns-2
-returns-2 c = wrote-bytes _ (good-sheet _ _ (loaded (c .before .before .before .before .before .before .before .before .before) .makes)) (c .before .before .answer-taken .ensures)
+returns-2 c = wrote-bytes _ (good-sheet _ _ (loaded (c .before .before .before .before .before .before .before .before .before) .makes)) (c .before .before .write-taken .ensures)
 
 pub pass-sheet-spec : {M : Type 1} → statement M
 pass-sheet-spec =
@@ -73,9 +73,9 @@ pass-sheet-spec =
     mul-numbers
     add-items
     array-share-prefix-arcs
-    slice-aggregate-answer-taken
+    slice-aggregate-write-taken
     array-share-prefix-marks
-    slice-aggregate-answer-taken-2
-    answer-taken-requires
+    slice-aggregate-write-taken-2
+    write-taken-requires
     same-length
     returns-2)
