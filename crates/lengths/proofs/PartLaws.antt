@@ -5,7 +5,7 @@ use mathlib.Core.List.{List, []}
 use native.Mathlib.Omega.{arith}
 use native.Mathlib.Nat.{one-le-pow}
 use lib.ListN.{length, getD, set, take, drop, length-set}
-use lib.Seq.{getD-set-same, getD-set-other, getD-take, take-set-le, drop-set-lt, drop-drop, length-take-le}
+use lib.Seq.{getD-set-same, getD-set-other, getD-take, take-set-le, drop-set-lt, length-take-le}
 use borrow.Author.Count.{below-more}
 use native.Mathlib.Decide.{ℕ-discrete}
 use mathlib.Core.Logic.{_≢_}
@@ -129,12 +129,6 @@ rowed-kept {work = work} {after = after} few l e R = record {
   first = λ v hv. same-front 576 work after e v (omega arith) ∙ R .first v hv;
   rows = λ i h v hv. same-front 576 work after e (64 + i * 64 + v) (omega arith) ∙ R .rows i h v hv;
 }
-
--- what stays behind a place stays behind a later one
-pub drop-further : (m n : ℕ) (u v : List ℕ) → m ≤ n → drop m u ≡ drop m v → drop n u ≡ drop n v
-drop-further m n u v h e =
-    let q : m + (n - m) ≡ n = omega arith in
-    ap (λ (k : ℕ). drop k u) (sym q) ∙ sym (drop-drop (n - m) m u) ∙ ap (drop (n - m)) e ∙ drop-drop (n - m) m v ∙ ap (λ (k : ℕ). drop k v) q
 
 -- the table has its place
 pub table-room : {N : Net} {cap : ℕ} {goals work : List ℕ} → Proper N → GoalsFit N goals → 3072 ≤ length work → Noted N cap goals work → TableFits (length goals) work

@@ -5,11 +5,24 @@ use mathlib.Core.List.{List, [], _∷_, _++_, append-assoc, append-nil}
 use native.Mathlib.Omega.{arith}
 use native.Mathlib.Numerals.{add-one}
 use lib.ListN.{length, take, drop, set, drop-of-length-le, length-append, length-take, length-drop, length-set}
-use lib.Seq.{drop-cons, set-append-seam, append-snoc, take-all, take-at, drop-at, drop-drop}
+use lib.Seq.{drop-append-add, drop-cons, set-append-seam, append-snoc, take-all, take-at, drop-at, drop-drop}
 use Rattle.lists.specs.Lists.{front, Put}
 
 pub length-front : (xs d : List ℕ) → length xs ≤ length d → length (front xs d) ≡ length d
 length-front xs d h = simp (length-append, length-drop) (omega arith)
+
+-- what stays behind a place stays behind a later one
+pub drop-further : (m n : ℕ) (u v : List ℕ) → m ≤ n → drop m u ≡ drop m v → drop n u ≡ drop n v
+drop-further m n u v h e =
+    let q : m + (n - m) ≡ n = omega arith in
+    ap (λ (k : ℕ). drop k u) (sym q) ∙ sym (drop-drop (n - m) m u) ∙ ap (drop (n - m)) e ∙ drop-drop (n - m) m v ∙ ap (λ (k : ℕ). drop k v) q
+
+-- what is behind the front is as it was
+pub front-rest : (xs d : List ℕ) (n : ℕ) → length xs ≤ n → drop n (front xs d) ≡ drop n d
+front-rest xs d n h =
+    let k : length xs + (n - length xs) ≡ n = omega arith in
+    ap (λ (i : ℕ). drop i (front xs d)) (sym k) ∙ drop-append-add xs (drop (length xs) d) (n - length xs) ∙ drop-drop (n - length xs) (length xs) d
+    ∙ ap (λ (i : ℕ). drop i d) k
 
 pub push : (xs d : List ℕ) (v : ℕ) → length xs < length d → set (front xs d) (length xs) v ≡ front (xs ++ (v ∷ [])) d
 push xs d v h =

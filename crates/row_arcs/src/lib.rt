@@ -1,7 +1,10 @@
 // The open arcs with an open head, packed to the front of an array.
-ghost use Prim.Native.Nat.{_+_, _*_, _≤_, _<_};
+ghost use Prim.Native.Nat.{ℕ, _*_, _≤_, _<_};
+ghost use mathlib.Core.List.{List, _++_};
 ghost use lib.ListN.{length, take};
-ghost use Rattle.rows.specs.Net.{netOf, arcCount, Proper, PackedTo, Packed};
+ghost use Rattle.lists.specs.Lists.{Put};
+ghost use Rattle.rows.specs.Net.{netOf, arcCount, Proper, Packed};
+ghost use Rattle.row_arcs.specs.OpenArcs.{openArc, openArcs};
 use walks::FORBIDDEN;
 
 // Puts the arc behind the `count` arcs that are packed, where it and its head are open.
@@ -15,10 +18,9 @@ fn pack_arc(
 ) -> usize
     requires { let N = netOf nodes (now arcs) (now marks) in
         ⌜ Proper N × (arc < arcCount (now arcs)) × (count ≤ arc) × (length (now arcs) ≤ length (now packed)) ⌝ }
-    ensures { λ r. ⌜ r ≤ arc + 1 ⌝ }
     ensures { λ r.
         let N = netOf nodes (now (arcs .entry)) (now (marks .entry)) in
-        ⌜ (PackedTo N arc (now (packed .entry)) count → PackedTo N (arc + 1) (now (packed .exit)) r) ⌝ }
+        ⌜ ((xs d : List ℕ) → Put xs d (now (packed .entry)) (count * 3) → Put (xs ++ openArc N arc) d (now (packed .exit)) (r * 3)) ⌝ }
 {
     let at = arc * 3;
     let head = arcs[at + 1];
@@ -35,12 +37,13 @@ fn pack_arc(
     count + 1
 }
 
-// Writes the open arcs with an open head to the front of `packed` and gives how many numbers they take.
+// Writes the open arcs with an open head to the front of `packed`, in their order, and gives how many numbers they take.
 pub fn pack(nodes: usize, arcs: &[u32], marks: &[u8], packed: &mut [u32]) -> usize
     requires { ⌜ Proper (netOf nodes (now arcs) (now marks)) × (length (now arcs) ≤ length (now packed)) ⌝ }
     ensures { λ r.
         let N = netOf nodes (now (arcs .entry)) (now (marks .entry)) in
-        ⌜ (r ≤ length (now (packed .exit))) × Packed N (take r (now (packed .exit))) × (r ≤ length (now (arcs .entry))) ⌝ }
+        let out = now (packed .exit) in
+        ⌜ (r ≤ length out) × Packed N (take r out) × (r ≤ length (now (arcs .entry))) × Put (openArcs N) (now (packed .entry)) out r ⌝ }
 {
     let m = arcs.len() / 3;
     let mut count = 0;

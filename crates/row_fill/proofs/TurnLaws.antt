@@ -6,20 +6,20 @@ use native.Mathlib.Omega.{arith}
 use lib.ListN.{length, getD, take}
 use lib.Seq.{getD-take, length-take-le}
 use borrow.Author.Count.{below-more}
-use Rattle.rows.proofs.ArcLaws.{written, written-before, written-tail, written-head, written-weight, tail-at, head-at, weight-at}
+use Rattle.rows.proofs.ArcLaws.{set-before, set-tail, set-head, set-weight, tail-at, head-at, weight-at}
 use Rattle.walks.proofs.FlatLaws.{arcs-count}
 use Rattle.rows.specs.Held.{held}
-use Rattle.rows.specs.Net.{Net, netOf, closed, count, tailIn, headIn, weightIn, tailAt, headAt, weightAt, Proper}
+use Rattle.rows.specs.Net.{Net, netOf, closed, count, tailIn, headIn, weightIn, tailAt, headAt, weightAt, Proper, arcSet}
 use Rattle.rows.specs.Rows.{RowIs, RowTo}
 use Rattle.walks.proofs.BackLaws.{Turned, least-back}
 use Rattle.walks.specs.Flat.{arcsOf}
 use Rattle.row_spread.specs.Arcs.{TurnedTo}
 
 -- arc i is written
-pub turned-more : (xs ys : List ℕ) (i : ℕ) → i * 3 + 2 < length ys → TurnedTo i xs ys → TurnedTo (i + 1) xs (written ys i (headIn xs i) (tailIn xs i) (weightIn xs i))
+pub turned-more : (xs ys : List ℕ) (i : ℕ) → i * 3 + 2 < length ys → TurnedTo i xs ys → TurnedTo (i + 1) xs (arcSet ys i (headIn xs i) (tailIn xs i) (weightIn xs i))
 turned-more xs ys i h T =
     below-more _ i (λ k q. let t = T k q in (same (k * 3) (omega arith) ∙ t .0, same (k * 3 + 1) (omega arith) ∙ t .1, same (k * 3 + 2) (omega arith) ∙ t .2))
-    (written-tail ys i a b c h, written-head ys i a b c h, written-weight ys i a b c h)
+    (set-tail ys i a b c h, set-head ys i a b c h, set-weight ys i a b c h)
   where
     a : ℕ
     a = headIn xs i
@@ -30,8 +30,8 @@ turned-more xs ys i h T =
     c : ℕ
     c = weightIn xs i
 
-    same : (k : ℕ) → k < i * 3 → getD (written ys i a b c) k 0 ≡ getD ys k 0
-    same = written-before ys i a b c h
+    same : (k : ℕ) → k < i * 3 → getD (arcSet ys i a b c) k 0 ≡ getD ys k 0
+    same = set-before ys i a b c h
 
 -- the arcs xs, and the first of ys as many as those, exchanged
 module _ (n : ℕ) (xs ys ms : List ℕ) (long : length xs ≤ length ys) (T : TurnedTo (length xs / 3) xs ys) where

@@ -1,18 +1,21 @@
 -- Arcs that are put behind the packed ones and in front of their tail's chain, and taken off again. Assumes nothing.
-use Prim.Native.Nat.{ℕ, zero, suc, _+_, _*_, _/_, _≤_, _<_}
+use Prim.Native.Nat.{ℕ, zero, suc, _+_, _-_, _*_, _/_, _≤_, _<_}
 use mathlib.Core.Path.{_≡_, refl, sym, ap, _∙_, subst}
 use mathlib.Core.Bool.{true, false}
 use mathlib.Core.List.{List, [], _∷_}
 use native.Mathlib.Omega.{arith}
-use lib.ListN.{length, getD, take, drop, set, length-set}
-use lib.Seq.{getD-take, getD-drop, length-take-le, take-take, take-set-le, drop-set-lt}
+use lib.ListN.{length, getD, take, drop, set, length-set, length-drop}
+use lib.Seq.{getD-take, getD-drop, length-take-le, take-take, take-at, take-set-le, drop-set-lt}
 use Rattle.walks.specs.Graph.{closedIn}
-use Rattle.rows.specs.Net.{Net, netOf, arcCount, tailIn, headIn, weightIn, Proper, Joins, Packed}
-use Rattle.rows.proofs.ArcLaws.{written, written-before, written-tail}
-use Rattle.row_arcs.proofs.PackLaws.{packed-joins, packed-whole}
+use Rattle.rows.specs.Net.{Net, netOf, closed, headAt, count, arcCount, tailIn, headIn, weightIn, Proper, Joins, Packed, arcSet}
+use Rattle.rows.proofs.ArcLaws.{set-before, set-tail}
+use Rattle.lists.specs.Lists.{front, Put}
+use Rattle.lists.proofs.FrontLaws.{front-rest, drop-further}
+use Rattle.row_arcs.specs.OpenArcs.{openArcs}
+use Rattle.row_arcs.proofs.PackLaws.{packed-joins, open-most, open-packed, packs}
 use Rattle.row_spread.specs.Arcs.{lastAt, ChainedBy, Chained}
 use Rattle.row_spread.proofs.ChainLaws.{chain-more, chain-less, chain-same}
-use Rattle.row_links.specs.Links.{Linked, Shaped, putOn, takenOff, PackOpened}
+use Rattle.row_links.specs.Links.{Linked, Shaped, putOn, takenOff, AllLinked, ItemLinked, linkedOn, left, behind, anew}
 use Rattle.row_links.proofs.PackOpened.{add-none, add-one}
 
 pub linked-shaped : {N : Net} {c : ℕ} {packed : List ℕ} → Proper N → Linked N c packed → Shaped c packed
@@ -82,6 +85,17 @@ module _ (ps : List ℕ) (c : ℕ) (few : c < 512) where
       (subst (λ (w : ℕ). ChainedBy end (c + 1) (set (set (drop 1536 ps) (64 + c) (getD (drop 1536 ps) w 0)) w (c + 1))) q
       (chain-more end (omega (arith, q)) few C))
 
+  pub on-rest : tailIn ps c < 64 → (d : List ℕ) → drop (1600 + c) ps ≡ drop (1600 + c) d → drop (1600 + (c + 1)) on ≡ drop (1600 + (c + 1)) d
+  on-rest h d e =
+      drop-set-lt (1600 + (c + 1)) (set ps (1536 + 64 + c) (getD ps (1536 + tailIn ps c) 0)) (1536 + tailIn ps c) (c + 1) (omega arith)
+      ∙ drop-set-lt (1600 + (c + 1)) ps (1536 + 64 + c) _ (omega arith) ∙ drop-further (1600 + c) (1600 + (c + 1)) ps d (omega arith) e
+
+-- What opening item i does: r arcs are linked then, where c were before. Where one was put behind the others, what was before comes back once it is
+-- taken off its chain.
+pub record PackOpened (n : ℕ) (xs marks : List ℕ) (i c : ℕ) (packed after : List ℕ) (r : ℕ) : Type 0 where
+  pub opened : (old : List ℕ) → marks ≡ set old i 0 → Linked (netOf n xs old) c packed → Linked (netOf n xs marks) r after
+  pub again : (old : List ℕ) → marks ≡ set old i 0 → Linked (netOf n xs old) c packed → n ≤ i → r ≡ c + 1 → Linked (netOf n xs old) c (takenOff after c)
+
 -- the head is closed, or the arc is put behind the others
 module _ (n : ℕ) (xs marks : List ℕ) (l : ℕ) (ps : List ℕ) (c : ℕ) (p : Proper (netOf n xs marks)) (below : l < arcCount xs) (few : c < 512)
     (long : length ps ≡ 2112) where
@@ -97,13 +111,13 @@ module _ (n : ℕ) (xs marks : List ℕ) (l : ℕ) (ps : List ℕ) (c : ℕ) (p 
   }
 
   abbrev put : List ℕ
-  put = written ps c (tailIn xs l) (headIn xs l) (weightIn xs l)
+  put = arcSet ps c (tailIn xs l) (headIn xs l) (weightIn xs l)
 
   abbrev after : List ℕ
   after = putOn put c
 
   put-tail : tailIn put c ≡ tailIn xs l
-  put-tail = written-tail ps c (tailIn xs l) (headIn xs l) (weightIn xs l) (omega arith)
+  put-tail = set-tail ps c (tailIn xs l) (headIn xs l) (weightIn xs l) (omega arith)
 
   pub tail-below : tailIn put c < 64
   tail-below = omega (arith, put-tail, p .tails l below, p .few)
@@ -113,7 +127,7 @@ module _ (n : ℕ) (xs marks : List ℕ) (l : ℕ) (ps : List ℕ) (c : ℕ) (p 
 
   tail-kept : (k : ℕ) → k < c → tailIn after k ≡ tailIn ps k
   tail-kept k h =
-      on-tail put c few k (omega arith) ∙ written-before ps c (tailIn xs l) (headIn xs l) (weightIn xs l) (omega arith) (k * 3) (omega arith)
+      on-tail put c few k (omega arith) ∙ set-before ps c (tailIn xs l) (headIn xs l) (weightIn xs l) (omega arith) (k * 3) (omega arith)
 
   chains-put : drop 1536 put ≡ drop 1536 ps
   chains-put =
@@ -175,14 +189,55 @@ unfolding lastAt
 unchained end long zeros = record { few = omega arith; long = long; lasts = zeros; befores = λ i h. absurd (omega arith) }
 
 -- all arcs packed, and then chained
-pub linked : {N : Net} (packed : List ℕ) {after : List ℕ} (r : ℕ) → r ≤ length packed → Packed N (take r packed) → r ≤ 1536 → length after ≡ 2112
-    → length packed ≡ 2112 → take 1536 after ≡ take 1536 packed → ChainedBy (tailIn packed) (r / 3) (drop 1536 after) → Linked N (r / 3) after
-linked packed {after} r h P few long l t C = record {
-  long = long;
-  room = omega arith;
-  arcs = rw front (packed-whole packed r h P);
-  chained = rw front (by-chained packed (r / 3) (tailIn packed) (omega arith) (λ k h. refl) C);
+pub all-linked : (N : Net) (d ps after : List ℕ) (r : ℕ) → length (N .arcs) ≤ 1536 → length d ≡ 2112 → Put (openArcs N) d ps r
+    → take 1536 after ≡ take 1536 ps → ChainedBy (tailIn ps) (r / 3) (drop 1536 after) → drop (1600 + r / 3) after ≡ drop (1600 + r / 3) ps
+    → AllLinked N (r / 3) d after
+all-linked N d ps after r few long w t C e =
+    let P = packs N d (omega arith) w in
+    let arcs : take (r / 3 * 3) ps ≡ openArcs N = ap (λ (k : ℕ). take k ps) (P .whole) ∙ P .arcs in
+    record {
+      many = P .whole ∙ w .0;
+      arcs = t ∙ ap (take 1536) (w .1);
+      chained = rw (← arcs) (by-chained ps (r / 3) (tailIn ps) (omega (arith, P .within)) (λ k h. refl) C);
+      rest = e ∙ ap (drop (1600 + r / 3)) (w .1) ∙ front-rest (openArcs N) d (1600 + r / 3) (omega (arith, w .0, P .most));
+    }
+
+-- they are the open ones then, and chained
+pub linked-all : {N : Net} {c : ℕ} {packed after : List ℕ} → length (N .arcs) ≤ 1536 → AllLinked N c packed after → Linked N c after
+linked-all {N} {c} {packed} {after} few A = record {
+  long = omega (arith, A .chained .long, length-drop 1536 after);
+  room = room;
+  arcs = rw front-arcs (open-packed N);
+  chained = rw front-arcs (A .chained);
 }
   where
-    front : take (r / 3 * 3) after ≡ take (r / 3 * 3) packed
-    front = sym (take-take (r / 3 * 3) 1536 after (omega arith)) ∙ ap (take (r / 3 * 3)) t ∙ take-take (r / 3 * 3) 1536 packed (omega arith)
+    room : c * 3 ≤ 1536
+    room = omega (arith, A .many, open-most N (count N))
+
+    front-arcs : take (c * 3) after ≡ openArcs N
+    front-arcs =
+        sym (take-take (c * 3) 1536 after room) ∙ ap (take (c * 3)) (A .arcs) ∙ take-take (c * 3) 1536 (front (openArcs N) packed) room
+        ∙ take-at (openArcs N) _ (c * 3) (sym (A .many))
+
+-- an arc opened, as the code has it
+module _ (N : Net) (l : ℕ) (ps : List ℕ) (c : ℕ) (few : c < 512) where
+  same : N .nodes + l - N .nodes ≡ l
+  same = omega arith
+
+  pub arc-left : closed N (headAt N l) ≡ true → ItemLinked N (N .nodes + l) c ps ps c
+  arc-left q = left (omega arith) few (rw same q)
+
+  pub arc-behind : closed N (headAt N l) ≡ false → ItemLinked N (N .nodes + l) c ps (linkedOn N l c ps) (c + 1)
+  arc-behind q =
+      subst (λ (k : ℕ). ItemLinked N (N .nodes + l) c ps (linkedOn N k c ps) (c + 1)) same (behind (omega arith) few (rw same q))
+
+-- an item opened
+pub item-linked : {n : ℕ} {xs marks : List ℕ} {i c : ℕ} {ps after : List ℕ} {r : ℕ} → Proper (netOf n xs marks) → length xs ≤ 1536 → i < n + arcCount xs
+    → length ps ≡ 2112 → ItemLinked (netOf n xs marks) i c ps after r → PackOpened n xs marks i c ps after r
+item-linked {n} {xs} {marks} {i} {c} {ps} p few below long (left h m q) =
+    let e : n + (i - n) ≡ i = omega arith in
+    rw e at (link-none n xs marks (i - n) ps c p (omega arith) m long q)
+item-linked {n} {xs} {marks} {i} {c} {ps} p few below long (behind h m q) =
+    let e : n + (i - n) ≡ i = omega arith in
+    rw e at (link-one n xs marks (i - n) ps c p (omega arith) m long q)
+item-linked p few below long (anew full A) = link-anew full (linked-all few A)

@@ -6,8 +6,7 @@ use mathlib.Core.List.{List}
 use native.Mathlib.Omega.{arith}
 use lib.ListN.{length, take, set, length-set}
 use Rattle.walks.specs.Graph.{closedIn}
-use Rattle.rows.specs.Net.{Net, netOf, arcCount, tailIn, headIn, weightIn, Proper, Open, PackedTo, Packed}
-use Rattle.rows.proofs.ArcLaws.{written}
+use Rattle.rows.specs.Net.{Net, netOf, arcCount, tailIn, headIn, weightIn, Proper, Open, PackedTo, Packed, arcSet}
 use Rattle.row_arcs.proofs.PackLaws.{pack-left, pack-put, pack-done, packed-to}
 use Rattle.walks.proofs.OpenedLaws.{open-same, open-other, opens}
 
@@ -34,7 +33,7 @@ module _ (n : ℕ) (xs marks : List ℕ) (l : ℕ) (heads : (i : ℕ) → i < ar
 
   -- it is put behind the others
   pub packed-more : l < arcCount xs → (ps : List ℕ) (c : ℕ) → c * 3 + 2 < length ps → Open then l → PackedTo now (arcCount xs) ps c
-      → PackedTo then (arcCount xs) (written ps c (tailIn xs l) (headIn xs l) (weightIn xs l)) (c + 1)
+      → PackedTo then (arcCount xs) (arcSet ps c (tailIn xs l) (headIn xs l) (weightIn xs l)) (c + 1)
   packed-more below ps c room op P = pack-put P (λ i h o. (h, open-after i o)) l room below op (λ i h q o. (h, open-before i h q o))
 
 -- the same as the code has it: the head is closed, or the arc is written behind the others
@@ -44,8 +43,8 @@ module _ (n : ℕ) (xs marks : List ℕ) (l : ℕ) (old ps : List ℕ) (c : ℕ)
   add-none q = rw e (packed-shut n xs old l (p .heads) (take (c * 3) ps) (λ o. true≢false (sym q ∙ (rw (← e) at (o .1)))) P)
 
   pub add-one : closedIn marks (headIn xs l) ≡ false
-      → Packed (netOf n xs marks) (take ((c + 1) * 3) (written ps c (tailIn xs l) (headIn xs l) (weightIn xs l)))
+      → Packed (netOf n xs marks) (take ((c + 1) * 3) (arcSet ps c (tailIn xs l) (headIn xs l) (weightIn xs l)))
   add-one q =
-      let l₁ : length (written ps c (tailIn xs l) (headIn xs l) (weightIn xs l)) ≡ length ps = simp length-set in
-      pack-done {xs = written ps c (tailIn xs l) (headIn xs l) (weightIn xs l)} {c = c + 1} (omega arith) refl
+      let l₁ : length (arcSet ps c (tailIn xs l) (headIn xs l) (weightIn xs l)) ≡ length ps = simp length-set in
+      pack-done {xs = arcSet ps c (tailIn xs l) (headIn xs l) (weightIn xs l)} {c = c + 1} (omega arith) refl
       (rw e (packed-more n xs old l (p .heads) below ps c (omega arith) (open-same old (n + l), rw e at q) (packed-to {xs = ps} {c = c} (omega arith) P)))

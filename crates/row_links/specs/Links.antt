@@ -1,9 +1,12 @@
 -- The open arcs of a graph in one list of 2112 numbers: packed, three numbers each, and from 1536 on chained by their tails.
-use Prim.Native.Nat.{ℕ, _+_, _*_, _≤_}
+use Prim.Native.Nat.{ℕ, _+_, _-_, _*_, _≤_, _<_}
 use mathlib.Core.Path.{_≡_}
+use mathlib.Core.Bool.{true, false}
 use mathlib.Core.List.{List}
 use lib.ListN.{length, getD, take, drop, set}
-use Rattle.rows.specs.Net.{Net, netOf, Joins, Packed}
+use Rattle.lists.specs.Lists.{front}
+use Rattle.rows.specs.Net.{Net, closed, tailAt, headAt, weightAt, Joins, Packed, arcSet}
+use Rattle.row_arcs.specs.OpenArcs.{openArcs}
 use Rattle.row_spread.specs.Arcs.{Chained}
 
 -- the first c arcs are the open ones, and they are chained
@@ -30,8 +33,21 @@ putOn packed c =
 abbrev pub takenOff : List ℕ → ℕ → List ℕ
 takenOff packed c = set packed (1536 + getD packed (c * 3) 0) (getD packed (1600 + c) 0)
 
--- What opening item i does: r arcs are linked then, where c were before. Where one was put behind the others, what was before comes back once it is
--- taken off its chain.
-pub record PackOpened (n : ℕ) (xs marks : List ℕ) (i c : ℕ) (packed after : List ℕ) (r : ℕ) : Type 0 where
-  pub opened : (old : List ℕ) → marks ≡ set old i 0 → Linked (netOf n xs old) c packed → Linked (netOf n xs marks) r after
-  pub again : (old : List ℕ) → marks ≡ set old i 0 → Linked (netOf n xs old) c packed → n ≤ i → r ≡ c + 1 → Linked (netOf n xs old) c (takenOff after c)
+-- What packing and chaining all open arcs leaves, of which there are c: they stand in front in their order, what was behind them up to number 1536 is
+-- as it was, and so is what is behind their chains.
+pub record AllLinked (N : Net) (c : ℕ) (packed after : List ℕ) : Type 0 where
+  pub many : c * 3 ≡ length (openArcs N)
+  pub arcs : take 1536 after ≡ take 1536 (front (openArcs N) packed)
+  pub chained : Chained (openArcs N) (drop 1536 after)
+  pub rest : drop (1600 + c) after ≡ drop (1600 + c) packed
+
+-- arc l written behind c packed ones and put in front of its tail's chain
+abbrev pub linkedOn : Net → ℕ → ℕ → List ℕ → List ℕ
+linkedOn N l c packed = putOn (arcSet packed c (tailAt N l) (headAt N l) (weightAt N l)) c
+
+-- What opening item i does where c arcs were linked: an arc to a closed node changes nothing, another goes behind the others, and a node, or an arc where
+-- there is no room behind them, has all open arcs linked anew.
+pub data ItemLinked (N : Net) (i c : ℕ) (packed : List ℕ) : List ℕ → ℕ → Type 0 where
+  left : N .nodes ≤ i → c < 512 → closed N (headAt N (i - N .nodes)) ≡ true → ItemLinked N i c packed packed c
+  behind : N .nodes ≤ i → c < 512 → closed N (headAt N (i - N .nodes)) ≡ false → ItemLinked N i c packed (linkedOn N (i - N .nodes) c packed) (c + 1)
+  anew : {after : List ℕ} {r : ℕ} → (N .nodes ≤ i → 512 ≤ c) → AllLinked N r packed after → ItemLinked N i c packed after r

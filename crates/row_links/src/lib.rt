@@ -4,7 +4,7 @@ ghost use Prim.Native.Nat.{_+_, _*_, _≤_, _<_};
 ghost use lib.ListN.{length, getD, take, drop};
 ghost use Rattle.rows.specs.Net.{netOf, arcCount, tailIn, Proper, Joins};
 ghost use Rattle.row_spread.specs.Arcs.{ChainedBy};
-ghost use Rattle.row_links.specs.Links.{Linked, putOn, takenOff, PackOpened};
+ghost use Rattle.row_links.specs.Links.{putOn, takenOff, AllLinked, ItemLinked};
 use row_spread::CHAIN_NUMBERS;
 use rows::ROW_LENGTH;
 use walks::ARC_NUMBERS;
@@ -33,6 +33,7 @@ fn chain_all(packed: &mut [u32], count: usize)
     ensures { λ _.
         let ps = now (packed .entry) in
         ⌜ (take 1536 (now (packed .exit)) ≡ take 1536 ps) × ChainedBy (tailIn ps) count (drop 1536 (now (packed .exit))) ⌝ }
+    ensures { λ _. ⌜ drop (1600 + count) (now (packed .exit)) ≡ drop (1600 + count) (now (packed .entry)) ⌝ }
 {
     let mut node = 0;
     while node < ROW_LENGTH {
@@ -49,7 +50,7 @@ fn chain_all(packed: &mut [u32], count: usize)
 // Packs the open arcs and chains them, and gives how many there are.
 pub fn pack_all(nodes: usize, arcs: &[u32], marks: &[u8], packed: &mut [u32]) -> usize
     requires { ⌜ Proper (netOf nodes (now arcs) (now marks)) × (length (now arcs) ≤ 1536) × (length (now packed) ≡ 2112) ⌝ }
-    ensures { λ r. ⌜ Linked (netOf nodes (now (arcs .entry)) (now (marks .entry))) r (now (packed .exit)) ⌝ }
+    ensures { λ r. ⌜ AllLinked (netOf nodes (now (arcs .entry)) (now (marks .entry))) r (now (packed .entry)) (now (packed .exit)) ⌝ }
 {
     let count = row_arcs::pack(nodes, arcs, marks, packed) / 3;
     chain_all(packed, count);
@@ -66,7 +67,9 @@ fn add_arc(
     count: usize,
 ) -> usize
     requires { ⌜ Proper (netOf nodes (now arcs) (now marks)) × (arc < arcCount (now arcs)) × (count < 512) × (length (now packed) ≡ 2112) ⌝ }
-    ensures { λ r. ⌜ PackOpened nodes (now (arcs .entry)) (now (marks .entry)) (nodes + arc) count (now (packed .entry)) (now (packed .exit)) r ⌝ }
+    ensures { λ r.
+        let N = netOf nodes (now (arcs .entry)) (now (marks .entry)) in
+        ⌜ ItemLinked N (nodes + arc) count (now (packed .entry)) (now (packed .exit)) r ⌝ }
 {
     let at = arc * 3;
     let head = arcs[at + 1];
@@ -92,7 +95,9 @@ pub fn pack_opened(
 ) -> usize
     requires { let N = netOf nodes (now arcs) (now marks) in
         ⌜ Proper N × (item < nodes + arcCount (now arcs)) × (length (now arcs) ≤ 1536) × (length (now packed) ≡ 2112) ⌝ }
-    ensures { λ r. ⌜ PackOpened nodes (now (arcs .entry)) (now (marks .entry)) item count (now (packed .entry)) (now (packed .exit)) r ⌝ }
+    ensures { λ r.
+        let N = netOf nodes (now (arcs .entry)) (now (marks .entry)) in
+        ⌜ ItemLinked N item count (now (packed .entry)) (now (packed .exit)) r ⌝ }
 {
     if item >= nodes {
         if count < ARCS {

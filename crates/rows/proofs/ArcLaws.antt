@@ -13,7 +13,7 @@ use Rattle.walks.proofs.FlatLaws.{arcs-count, arc-at}
 use Rattle.walks.specs.Goals.{entryOf, exitOf, over, ownOf}
 use Rattle.walks.specs.Graph.{Arc, tailOf, headOf, weightOf, arcItem}
 use Rattle.walks.specs.Lengths.{none, some}
-use Rattle.rows.specs.Net.{Net, graph, closed, count, tailIn, headIn, weightIn, tailAt, headAt, weightAt, Proper}
+use Rattle.rows.specs.Net.{Net, graph, closed, count, tailIn, headIn, weightIn, arcSet, tailAt, headAt, weightAt, Proper}
 
 module _ (N : Net) (i : ℕ) (h : i < count N) where
   pub tail-at : tailOf (graph N) i ≡ tailAt N i
@@ -57,31 +57,28 @@ item-at N g below = go (ltb g (N .nodes)) refl
         let e : N .nodes + (g - N .nodes) ≡ g = omega arith in
         subst (λ (x : ℕ). Item (graph N) x) e (arc (g - N .nodes) (rw (arcs-count (N .arcs)) (omega arith)))
 
--- arc i of a list is written
-abbrev pub written : List ℕ → ℕ → ℕ → ℕ → ℕ → List ℕ
-written xs i a b c = set (set (set xs (i * 3) a) (i * 3 + 1) b) (i * 3 + 2) c
-
+-- an arc stored in a list
 module _ (xs : List ℕ) (i a b c : ℕ) (room : i * 3 + 2 < length xs) where
-  pub written-before : (k : ℕ) → k < i * 3 → getD (written xs i a b c) k 0 ≡ getD xs k 0
-  written-before k q =
+  pub set-before : (k : ℕ) → k < i * 3 → getD (arcSet xs i a b c) k 0 ≡ getD xs k 0
+  set-before k q =
       getD-set-other (set (set xs (i * 3) a) (i * 3 + 1) b) (i * 3 + 2) k c 0 (λ e. omega arith)
       ∙ getD-set-other (set xs (i * 3) a) (i * 3 + 1) k b 0 (λ e. omega arith) ∙ getD-set-other xs (i * 3) k a 0 (λ e. omega arith)
 
-  pub written-tail : tailIn (written xs i a b c) i ≡ a
-  written-tail =
+  pub set-tail : tailIn (arcSet xs i a b c) i ≡ a
+  set-tail =
       getD-set-other (set (set xs (i * 3) a) (i * 3 + 1) b) (i * 3 + 2) (i * 3) c 0 (λ e. omega arith)
       ∙ getD-set-other (set xs (i * 3) a) (i * 3 + 1) (i * 3) b 0 (λ e. omega arith) ∙ getD-set-same xs (i * 3) a 0 (omega arith)
 
-  pub written-head : headIn (written xs i a b c) i ≡ b
-  written-head =
+  pub set-head : headIn (arcSet xs i a b c) i ≡ b
+  set-head =
       getD-set-other (set (set xs (i * 3) a) (i * 3 + 1) b) (i * 3 + 2) (i * 3 + 1) c 0 (λ e. omega arith)
       ∙ getD-set-same (set xs (i * 3) a) (i * 3 + 1) b 0 (simp length-set (omega arith))
 
-  pub written-weight : weightIn (written xs i a b c) i ≡ c
-  written-weight = getD-set-same (set (set xs (i * 3) a) (i * 3 + 1) b) (i * 3 + 2) c 0 (simp length-set (omega arith))
+  pub set-weight : weightIn (arcSet xs i a b c) i ≡ c
+  set-weight = getD-set-same (set (set xs (i * 3) a) (i * 3 + 1) b) (i * 3 + 2) c 0 (simp length-set (omega arith))
 
-  pub written-long : length (written xs i a b c) ≡ length xs
-  written-long = simp length-set
+  pub set-long : length (arcSet xs i a b c) ≡ length xs
+  set-long = simp length-set
 
 -- a walk comes to an item at a node
 pub entry-below : (N : Net) (g : ℕ) → Proper N → g < N .nodes + count N → entryOf (graph N) g < N .nodes

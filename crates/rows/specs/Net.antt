@@ -3,7 +3,7 @@ use mathlib.Core.Path.{_≡_}
 use mathlib.Core.List.{List}
 use mathlib.Core.Bool.{Bool, false}
 use Prim.Native.Nat.{ℕ, _+_, _*_, _/_, _≤_, _<_}
-use lib.ListN.{length, getD}
+use lib.ListN.{length, getD, set}
 use Rattle.walks.specs.Flat.{graphOf}
 use Rattle.walks.specs.Graph.{Graph, closedIn}
 
@@ -34,6 +34,10 @@ headIn xs i = getD xs (i * 3 + 1) 0
 
 abbrev pub weightIn : List ℕ → ℕ → ℕ
 weightIn xs i = getD xs (i * 3 + 2) 0
+
+-- arc i of a list stored anew
+abbrev pub arcSet : List ℕ → ℕ → ℕ → ℕ → ℕ → List ℕ
+arcSet xs i t h w = set (set (set xs (i * 3) t) (i * 3 + 1) h) (i * 3 + 2) w
 
 abbrev pub count : Net → ℕ
 count N = arcCount (N .arcs)

@@ -8,6 +8,7 @@ use borrow.Author.Needs.{needs}
 use Rattle.greedy_turn.specs.Turns.{taskOf}
 use Rattle.greedy.proofs.ListedLaws.{Going, going-begun, going-more, going-room, going-done}
 use Rattle.greedy.proofs.PlaceLaws.{used-long, cut-starts, cut-count, cut-goals, setting-of, state-of}
+use Rattle.row_links.proofs.LinkLaws.{linked-all}
 use Rattle.greedy.proofs.fill_list.Statement.{statement}
 use Rattle.greedy.proofs.fill_list.Tie as tie
 
@@ -42,7 +43,7 @@ loop-holds c =
       refl,
       refl,
       going-begun (s .args .list .now) (setting-of e (s .pre .0 .0) G S k (s .pre .0 .2) (s .pre .1 .0 .3) (s .pre .1 .0 .4))
-          (state-of e (s .pre .0 .0) G S k (p .ensures) (g .kept .1 .1 .1 .1 .0 ∙ s .pre .1 .0 .0) (g .ensures .0) (g .ensures .1 .0) (s .pre .1 .1)),
+          (state-of e (s .pre .0 .0) G S k (linked-all (s .pre .0 .2) (p .ensures)) (g .kept .1 .1 .1 .1 .0 ∙ s .pre .1 .0 .0) (g .ensures .0) (g .ensures .1 .0) (s .pre .1 .1)),
     )
 
 slice-aggregate-take-turn : tie.Need-slice-aggregate-take-turn Inv-loop μ-loop

@@ -6,7 +6,8 @@ use native.Mathlib.Omega.{arith}
 use borrow.Author.Needs.{needs}
 use lib.Dec.{leb}
 use Rattle.rows.specs.Net.{netOf, graph, closed}
-use Rattle.lengths.proofs.PartLaws.{table-room, filled-begun, rowed-kept, drop-further}
+use Rattle.lists.proofs.FrontLaws.{drop-further}
+use Rattle.lengths.proofs.PartLaws.{table-room, filled-begun, rowed-kept}
 use Rattle.greedy_turn.proofs.TurnLaws.{noted-kept, front-less}
 use Rattle.rows.proofs.HeldLaws.{fits-held}
 use Rattle.greedy_turn.proofs.fits_limit.Statement.{statement}

@@ -5,6 +5,7 @@ use borrow.Author.Needs.{needs}
 use lib.ListN.{take}
 use lib.Seq.{getD-take, length-take-le}
 use Rattle.rows.specs.Net.{arcCount}
+use Rattle.row_links.proofs.LinkLaws.{linked-all}
 use Rattle.greedy_turn.proofs.link_closed.Statement.{statement}
 use Rattle.greedy_turn.proofs.link_closed.Tie as tie
 
@@ -25,6 +26,9 @@ returns c =
     let s = c .before .before .before .before .before .before .before .before .before .before in
     rw (c .before .before .take-off .ensures) (s .pre .1 (omega arith) (c .before .before .before .before .if2 .taken))
 
+returns-2 : tie.Need-returns-2
+returns-2 c = let s = c .before .before .before .before .before .before .before .before .before in linked-all (s .pre .0 .1) (c .before .before .pack-all .ensures)
+
 pub link-closed-spec : {M : Type 1} → statement M
 link-closed-spec =
     tie.close
@@ -35,4 +39,4 @@ link-closed-spec =
     returns
     (λ c κs. search needs)
     (λ c. search needs)
-    (λ c. search needs))
+    returns-2)

@@ -5,9 +5,9 @@ use mathlib.Core.Bool.{true}
 use native.Mathlib.Omega.{arith}
 use borrow.Author.Needs.{needs}
 use borrow.Author.Tests.{eq-eqb, ne-eqb}
-use lib.ListN.{length-set}
+use lib.ListN.{set, length-set}
 use Rattle.walks.specs.Graph.{closedIn}
-use Rattle.row_links.proofs.LinkLaws.{linked-shaped}
+use Rattle.row_links.proofs.LinkLaws.{PackOpened, linked-shaped, item-linked}
 use Rattle.greedy_turn.proofs.TurnLaws.{set-proper, set-goals, in-turn, closed-again, turn-passed, turn-opened, turn-listed, state-opened, state-listed}
 use Rattle.greedy_turn.proofs.take_turn.Statement.{statement}
 use Rattle.greedy_turn.proofs.take_turn.Tie as tie
@@ -18,20 +18,28 @@ returns c = (turn-passed (ne-eqb _ _ (c .if1 .taken)), c .before .before .before
 pack-opened-requires : tie.Need-pack-opened-requires
 pack-opened-requires c κs = let s = c .before .before .before .before .before .before .before .before .before in (set-proper (s .pre .0 .0) _ (simp length-set (s .pre .1 .marked)), s .pre .0 .1, s .pre .0 .0 .short, s .pre .1 .links .long)
 
+-- the arcs that are linked once the item is opened
+opened : (p : tie.After-pack-opened)
+    → let s = p .before .before .before .before .before .before .before .before .before .before in
+    let t = p .pack-opened in
+    let marks = set (s .args .marks .now) (s .args .turn .item) 0 in
+    PackOpened (s .args .turn .nodes) (s .args .arcs .now) marks (s .args .turn .item) (s .args .turn .count) (s .args .packed .now) (t .last .1 .1 .1 .0) (t .result)
+opened p =
+    let s = p .before .before .before .before .before .before .before .before .before .before in
+    item-linked (set-proper (s .pre .0 .0) _ (simp length-set (s .pre .1 .marked))) (s .pre .0 .0 .short) (s .pre .0 .1) (s .pre .1 .links .long) (p .pack-opened .ensures)
+
 blocked-requires : tie.Need-blocked-requires
 blocked-requires c κs =
     let s = c .before .before .before .before .before .before .before .before .before .before .before .before .before .before .before in
-    let t = c .before .before .before .before .before .pack-opened in
-    (s .pre .0 .0, in-turn (s .pre .0 .0) (s .pre .1) (s .args .turn .item) (s .pre .0 .1) (t .ensures .opened (s .args .marks .now) refl (s .pre .1 .links)), s .pre .0 .2)
+    (s .pre .0 .0, in-turn (s .pre .0 .0) (s .pre .1) (s .args .turn .item) (s .pre .0 .1) (opened (c .before .before .before .before .before) .opened (s .args .marks .now) refl (s .pre .1 .links)), s .pre .0 .2)
 
 returns-2 : tie.Need-returns-2
 returns-2 c =
     let s = c .before .before .before .before .before .before .before .before .before .before .before .before .before .before .before .before .before .before .before in
-    let t = c .before .before .before .before .before .before .before .before .before .pack-opened in
     let b = c .before .before .before .blocked in
     let p : closedIn (s .args .marks .now) (s .args .turn .item) ≡ true = eq-eqb _ _ (c .before .before .before .before .before .before .before .before .before .before .before .before .if1 .left) in
     let J = rw (c .if2 .taken) at (b .ensures (s .args .marks .now) refl (s .pre .1 .ready) (s .pre .1 .blocked)) in
-    (turn-opened p J, state-opened (s .pre .0 .0) (s .pre .1) (s .args .turn .item) (b .kept .1 .1 .1 .1 .1 .0) (t .ensures .opened (s .args .marks .now) refl (s .pre .1 .links)) J)
+    (turn-opened p J, state-opened (s .pre .0 .0) (s .pre .1) (s .args .turn .item) (b .kept .1 .1 .1 .1 .1 .0) (opened (c .before .before .before .before .before .before .before .before .before) .opened (s .args .marks .now) refl (s .pre .1 .links)) J)
 
 slice-write-marks-2 : tie.Need-slice-write-marks-2
 slice-write-marks-2 c = let s = c .before .before .before .before .before .before .before .before .before .before .before .before .before .before .before .before .before .before .before in simp length-set (omega (arith, s .pre .1 .marked, s .pre .0 .1))
@@ -44,15 +52,15 @@ note-goals-requires c κs =
 link-closed-requires : tie.Need-link-closed-requires
 link-closed-requires c κs =
     let s = c .before .before .before .before .before .before .before .before .before .before .before .before .before .before .before .before .before .before .before .before .before .before .before .before .before .before .before in
-    let t = c .before .before .before .before .before .before .before .before .before .before .before .before .before .before .before .before .before .pack-opened in
+    let o = opened (c .before .before .before .before .before .before .before .before .before .before .before .before .before .before .before .before .before) in
     let p : closedIn (s .args .marks .now) (s .args .turn .item) ≡ true = eq-eqb _ _ (c .before .before .before .before .before .before .before .before .before .before .before .before .before .before .before .before .before .before .before .before .if1 .left) in (
       (
         set-proper (s .pre .0 .0) _ (simp length-set (s .pre .1 .marked)),
         s .pre .0 .0 .short,
-        linked-shaped (set-proper (s .pre .0 .0) _ (simp length-set (s .pre .1 .marked))) (t .ensures .opened (s .args .marks .now) refl (s .pre .1 .links)),
+        linked-shaped (set-proper (s .pre .0 .0) _ (simp length-set (s .pre .1 .marked))) (o .opened (s .args .marks .now) refl (s .pre .1 .links)),
         omega (arith, s .pre .1 .links .room),
       ),
-      λ a b. rw (closed-again (s .args .marks .now) (s .args .turn .item) p) (t .ensures .again (s .args .marks .now) refl (s .pre .1 .links) a b),
+      λ a b. rw (closed-again (s .args .marks .now) (s .args .turn .item) p) (o .again (s .args .marks .now) refl (s .pre .1 .links) a b),
     )
 
 returns-3 : tie.Need-returns-3

@@ -3,7 +3,8 @@ use mathlib.Core.Path.{refl, _∙_}
 use native.Mathlib.Omega.{arith}
 use Rattle.rows.specs.Held.{held}
 use Rattle.rows.specs.Net.{netOf}
-use Rattle.lengths.proofs.PartLaws.{table-room, filled-begun, rowed-kept, drop-further}
+use Rattle.lists.proofs.FrontLaws.{drop-further}
+use Rattle.lengths.proofs.PartLaws.{table-room, filled-begun, rowed-kept}
 use borrow.Author.Needs.{needs}
 use Rattle.lengths.proofs.least.Statement.{statement}
 use Rattle.lengths.proofs.least.Tie as tie

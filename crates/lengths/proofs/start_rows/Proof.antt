@@ -6,7 +6,8 @@ use lib.ListN.{length, take}
 use lib.Seq.{length-take-le}
 use Rattle.row_arcs.proofs.PackLaws.{packed-joins}
 use Rattle.rows.specs.Net.{netOf}
-use Rattle.lengths.proofs.PartLaws.{front-count, front-starts, starts-fit, starts-of, rowed-of, drop-further}
+use Rattle.lists.proofs.FrontLaws.{drop-further}
+use Rattle.lengths.proofs.PartLaws.{front-count, front-starts, starts-fit, starts-of, rowed-of}
 use borrow.Author.Needs.{needs}
 use Rattle.lengths.proofs.start_rows.Statement.{statement}
 use Rattle.lengths.proofs.start_rows.Tie as tie

@@ -1,25 +1,25 @@
 -- `row_arcs::pack` meets its contract. The loop's invariant: the arcs below `i` are looked at, and the open ones packed. Assumes nothing.
 use mathlib.Core.Path.{_≡_, refl, _∙_}
-use Prim.Native.Nat.{_*_, _-_, _≤_}
+use Prim.Native.Nat.{_+_, _*_, _-_, _≤_}
 use native.Mathlib.Omega.{arith}
 use lib.ListN.{length}
-use Rattle.row_arcs.proofs.PackLaws.{pack-begun, pack-done}
-use Rattle.rows.specs.Net.{netOf, arcCount, PackedTo}
+use Rattle.lists.specs.Lists.{Put}
+use Rattle.row_arcs.specs.OpenArcs.{openTo, openArcs}
+use Rattle.row_arcs.proofs.PackLaws.{open-most, open-more, packs}
+use Rattle.rows.specs.Net.{netOf, arcCount}
 use Rattle.row_arcs.proofs.pack.Statement.{statement}
 use Rattle.row_arcs.proofs.pack.Tie as tie
 
 abbrev Inv-loop : tie.InvT-loop
 Inv-loop nodes arcs marks packed₀ m c₀ i₀ packed c i =
-    let N = netOf nodes arcs marks in
-    (i ≤ arcCount arcs) × (c ≤ i) × (length packed ≡ length packed₀) × PackedTo N i packed c
+    (i ≤ arcCount arcs) × (c ≤ i) × (length packed ≡ length packed₀) × Put (openTo (netOf nodes arcs marks) i) packed₀ packed (c * 3)
 
 abbrev μ-loop : tie.MeasureT-loop
 μ-loop nodes arcs marks packed₀ m c₀ i₀ packed c i = arcCount arcs - i
 
 loop-holds : tie.Need-loop-holds Inv-loop μ-loop
-loop-holds c =
-    let s = c .before .before .before in
-    (omega arith, omega arith, refl, pack-begun (netOf (s .args .nodes) (s .args .arcs .now) (s .args .marks .now)) (s .args .packed .now))
+unfolding openTo
+loop-holds c = (omega arith, omega arith, refl, (refl, refl))
 
 pack-arc-requires : tie.Need-pack-arc-requires Inv-loop μ-loop
 pack-arc-requires c κs =
@@ -29,9 +29,14 @@ pack-arc-requires c κs =
 
 loop-again : tie.Need-loop-again Inv-loop μ-loop
 loop-again c =
+    let s = c .before .before .before .before .before .before .before .before .before in
     let l = c .before .before .before .before .before .loop in
     let t = c .before .before .pack-arc in
-    (omega arith, t .ensures .0, t .kept .1 .1 .1 .0 ∙ l .inv .2, t .ensures .1 (l .inv .3))
+    let N = netOf (s .args .nodes) (s .args .arcs .now) (s .args .marks .now) in
+    let more : Put (openTo N (l .i + 1)) (s .args .packed .now) (t .last .1 .1 .1 .0) (t .result * 3) =
+    rw (open-more N (l .i)) (t .ensures (openTo N (l .i)) (s .args .packed .now) (l .inv .3))
+    in
+    (omega arith, omega (arith, more .0, open-most N (l .i + 1)), t .kept .1 .1 .1 .0 ∙ l .inv .2, more)
 
 same-length : tie.Need-same-length Inv-loop μ-loop
 same-length c = c .before .loop .inv .2
@@ -40,9 +45,11 @@ returns : tie.Need-returns Inv-loop μ-loop
 returns c =
     let l = c .before .loop in
     let s = c .before .before .before .before .before in
-    let r : l .count * 3 ≤ length (l .packed) = omega (arith, s .pre .1, l .inv .2) in
+    let N = netOf (s .args .nodes) (s .args .arcs .now) (s .args .marks .now) in
     let q : l .i ≡ arcCount (s .args .arcs .now) = omega arith in
-    (r, pack-done r q (l .inv .3), omega arith)
+    let w : Put (openArcs N) (s .args .packed .now) (l .packed) (l .count * 3) = rw (← q) (l .inv .3) in
+    let P = packs N (s .args .packed .now) (s .pre .1) w in
+    (P .within, P .packed, P .most, w)
 
 pub pack-spec : {M : Type 1} → statement M
 pack-spec =

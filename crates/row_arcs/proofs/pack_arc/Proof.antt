@@ -2,16 +2,16 @@
 use Prim.Native.Nat.{_^_, _<_}
 use native.Mathlib.Omega.{arith}
 use denote.Ref.{now}
-use borrow.Author.Tests.{eqb-false, ne-eqb}
+use borrow.Author.Tests.{eq-eqb, ne-eqb}
 use lib.ListN.{length-set}
-use Rattle.row_arcs.proofs.PackLaws.{pack-none, pack-one}
-use Rattle.rows.specs.Net.{netOf, headIn}
+use Rattle.row_arcs.proofs.PackLaws.{put-none, put-arc, arc-shut, head-shut, arc-there}
+use Rattle.rows.specs.Net.{netOf, headIn, tailAt, headAt, weightAt}
 use borrow.Author.Needs.{needs}
 use Rattle.row_arcs.proofs.pack_arc.Statement.{statement}
 use Rattle.row_arcs.proofs.pack_arc.Tie as tie
 
 returns : tie.Need-returns
-returns c = (omega arith, pack-none (λ o. eqb-false _ _ (o .0) (c .if1 .taken)))
+returns c xs d P = let s = c .before .before .before in put-none xs d _ _ _ (arc-shut (netOf (s .args .nodes) (now (s .args .arcs)) (now (s .args .marks))) (s .args .arc) (eq-eqb _ _ (c .if1 .taken))) P
 
 cast-if2 : tie.Need-cast-if2
 cast-if2 c =
@@ -25,7 +25,7 @@ shared-slice-read-if2 c =
     omega (arith, s .pre .0 .heads (s .args .arc) (s .pre .1), s .pre .0 .marked)
 
 returns-2 : tie.Need-returns-2
-returns-2 c = (omega arith, pack-none (λ o. eqb-false _ _ (o .1) (c .if2 .taken)))
+returns-2 c xs d P = let s = c .before .before .before .before .before in put-none xs d _ _ _ (head-shut (netOf (s .args .nodes) (now (s .args .arcs)) (now (s .args .marks))) (s .args .arc) (eq-eqb _ _ (c .if2 .taken))) P
 
 slice-write-packed-2 : tie.Need-slice-write-packed-2
 slice-write-packed-2 c = simp length-set (omega arith)
@@ -34,10 +34,12 @@ slice-write-packed-3 : tie.Need-slice-write-packed-3
 slice-write-packed-3 c = simp length-set (omega arith)
 
 returns-3 : tie.Need-returns-3
-returns-3 c =
+returns-3 c xs d P =
     let s = c .before .before .before .before .before .before .before in
     let N = netOf (s .args .nodes) (now (s .args .arcs)) (now (s .args .marks)) in
-    (omega arith, pack-one N (s .args .arc) (now (s .args .packed)) (s .args .count) (omega arith) (ne-eqb _ _ (c .before .before .before .before .if1 .left), ne-eqb _ _ (c .before .before .if2 .left)))
+    let l = s .args .arc in
+    let e = arc-there N l (ne-eqb _ _ (c .before .before .before .before .if1 .left), ne-eqb _ _ (c .before .before .if2 .left)) in
+    rw e (put-arc xs d (now (s .args .packed)) (s .args .count) (tailAt N l) (headAt N l) (weightAt N l) (omega arith) P)
 
 pub pack-arc-spec : {M : Type 1} → statement M
 pack-arc-spec =

@@ -4,7 +4,7 @@ use mathlib.Core.Path.{_≡_, refl, _∙_, subst}
 use Prim.Native.Nat.{ℕ, _-_, _/_, _≤_}
 use native.Mathlib.Omega.{arith}
 use lib.ListN.{length, length-set}
-use Rattle.rows.proofs.ArcLaws.{written-long}
+use Rattle.rows.proofs.ArcLaws.{set-long}
 use Rattle.rows.specs.Net.{tailIn, headIn, weightIn}
 use Rattle.row_fill.proofs.TurnLaws.{turned-more}
 use Rattle.row_spread.specs.Arcs.{TurnedTo}
@@ -31,7 +31,7 @@ loop-again c =
     let s = c .before .before .before .before .before in
     let l = c .before .before .before .before .loop in (
       omega arith,
-      written-long (l .back) (l .i) (headIn (s .args .arcs .now) (l .i)) (tailIn (s .args .arcs .now) (l .i)) (weightIn (s .args .arcs .now) (l .i)) (omega arith) ∙ l .inv .1,
+      set-long (l .back) (l .i) (headIn (s .args .arcs .now) (l .i)) (tailIn (s .args .arcs .now) (l .i)) (weightIn (s .args .arcs .now) (l .i)) (omega arith) ∙ l .inv .1,
       turned-more (s .args .arcs .now) (l .back) (l .i) (omega arith) (l .inv .2),
     )
 

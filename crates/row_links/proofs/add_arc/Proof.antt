@@ -5,7 +5,8 @@ use native.Mathlib.Omega.{arith}
 use borrow.Author.Needs.{needs}
 use lib.ListN.{length-set}
 use borrow.Author.Tests.{ne-eqb, eq-eqb}
-use Rattle.row_links.proofs.LinkLaws.{tail-below, link-none, link-one}
+use Rattle.row_links.proofs.LinkLaws.{tail-below, arc-left, arc-behind}
+use Rattle.rows.specs.Net.{netOf}
 use Rattle.row_links.proofs.add_arc.Statement.{statement}
 use Rattle.row_links.proofs.add_arc.Tie as tie
 
@@ -18,7 +19,7 @@ shared-slice-read-if1 c = let s = c .before .before .before .before .before in o
 returns : tie.Need-returns
 returns c =
     let s = c .before .before .before .before .before .before in
-    link-none (s .args .nodes) (s .args .arcs .now) (s .args .marks .now) (s .args .arc) (s .args .packed .now) (s .args .count) (s .pre .0) (s .pre .1) (s .pre .2) (s .pre .3) (eq-eqb _ _ (c .if1 .taken))
+    arc-left (netOf (s .args .nodes) (s .args .arcs .now) (s .args .marks .now)) (s .args .arc) (s .args .packed .now) (s .args .count) (s .pre .2) (eq-eqb _ _ (c .if1 .taken))
 
 slice-write-packed-2 : tie.Need-slice-write-packed-2
 slice-write-packed-2 c = simp length-set (omega arith)
@@ -38,7 +39,7 @@ returns-2 : tie.Need-returns-2
 returns-2 c =
     let s = c .before .before .before .before .before .before .before .before .before .before .before .before in
     rw (c .before .before .put-on .ensures)
-    (link-one (s .args .nodes) (s .args .arcs .now) (s .args .marks .now) (s .args .arc) (s .args .packed .now) (s .args .count) (s .pre .0) (s .pre .1) (s .pre .2) (s .pre .3) (ne-eqb _ _ (c .before .before .before .before .before .before .if1 .left)))
+    (arc-behind (netOf (s .args .nodes) (s .args .arcs .now) (s .args .marks .now)) (s .args .arc) (s .args .packed .now) (s .args .count) (s .pre .2) (ne-eqb _ _ (c .before .before .before .before .before .before .if1 .left)))
 
 pub add-arc-spec : {M : Type 1} → statement M
 add-arc-spec =
