@@ -8,8 +8,8 @@ use lib.ListN.{length, getD, drop, replicate}
 use lib.Seq.{drop-length}
 use Rattle.rows.specs.Bits.{alone}
 use Rattle.rows.specs.Held.{missing}
-use Rattle.rows.specs.Net.{Net, Joins}
-use Rattle.rows.specs.Rows.{Sound}
+use Rattle.rows.specs.Net.{Net, Proper, Joins, Packed}
+use Rattle.rows.specs.Rows.{Sound, Away}
 use Rattle.row_spread.specs.Active.{Mendable}
 use Rattle.rows.proofs.BitLaws.{bit-own}
 
@@ -29,4 +29,11 @@ pub blank-mendable : (cap : ℕ) (xs marks : List ℕ) (s : ℕ) (d : List ℕ) 
 blank-mendable cap xs marks s d J hs c b = record {
   still = record { tried = λ j h z k. absurd (omega (arith, b _ (J j h .0))) };
   begun = λ z. absurd (omega (arith, bit-own s hs));
+}
+
+-- no arc enters what is no node
+pub behind-away : {N : Net} {xs : List ℕ} {s v : ℕ} → Proper N → Packed N xs → s < N .nodes → N .nodes ≤ v → Away xs s v
+behind-away p P h l = record {
+  start = λ e. absurd (omega arith);
+  arcs = λ j k e. let o = P .only j k in absurd (omega (arith, o .3 .head, p .heads (o .0) (o .1)));
 }

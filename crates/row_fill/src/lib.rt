@@ -1,10 +1,10 @@
 // Rows filled from nothing: from a node, to a node, or from several nodes over arcs packed once.
 ghost use mathlib.Core.Path.{_≡_};
-ghost use Prim.Native.Nat.{_*_, _≤_, _<_};
-ghost use lib.ListN.{length, replicate, drop};
+ghost use Prim.Native.Nat.{ℕ, _*_, _≤_, _<_};
+ghost use lib.ListN.{length, getD, replicate, drop};
 ghost use Rattle.rows.specs.Held.{missing};
 ghost use Rattle.rows.specs.Net.{Net, netOf, arcCount, Proper, Joins};
-ghost use Rattle.rows.specs.Rows.{RowIs, RowTo, StartOf, StartsOf, StartsFit, RowsAre};
+ghost use Rattle.rows.specs.Rows.{RowIs, RowTo, AwayMissing, NoneBehind, StartOf, StartsOf, StartsFit, RowsAre, rowAt};
 ghost use Rattle.row_spread.specs.Arcs.{Chained, TurnedTo};
 use row_spread::Mend;
 use rows::MISSING;
@@ -27,6 +27,7 @@ fn fill_row(arcs: &[u32], chains: &[u32], marks: &[u8], from: usize, row: &mut [
     requires { ⌜ Joins 64 (now arcs) × Chained (now arcs) (now chains) ⌝ }
     requires { ⌜ (length (now row) ≡ 64) × (from < 64) × (from < length (now marks)) × (cap < missing) ⌝ }
     ensures { λ _. ⌜ ((N : Net) → StartOf N (now (arcs .entry)) (now (marks .entry)) from → RowIs N cap from (now (row .exit))) ⌝ }
+    ensures { λ _. ⌜ AwayMissing (now (arcs .entry)) from (now (row .exit)) ⌝ }
 {
     fill(row, MISSING);
     let mend = Mend {
@@ -41,7 +42,7 @@ fn fill_row(arcs: &[u32], chains: &[u32], marks: &[u8], from: usize, row: &mut [
 pub fn row_from(nodes: usize, arcs: &[u32], marks: &[u8], from: usize, row: &mut [u32], cap: u32)
     requires { ⌜ Proper (netOf nodes (now arcs) (now marks)) × (length (now arcs) ≤ 1536) ⌝ }
     requires { ⌜ (length (now row) ≡ 64) × (from < nodes) × (cap < missing) ⌝ }
-    ensures { λ _. ⌜ RowIs (netOf nodes (now (arcs .entry)) (now (marks .entry))) cap from (now (row .exit)) ⌝ }
+    ensures { λ _. ⌜ RowIs (netOf nodes (now (arcs .entry)) (now (marks .entry))) cap from (now (row .exit)) × NoneBehind nodes (now (row .exit)) ⌝ }
 {
     let mut packed = [0u32; ARC_NUMBERS];
     let used = row_arcs::pack(nodes, arcs, marks, &mut packed);
@@ -69,7 +70,7 @@ fn turn(arcs: &[u32], back: &mut [u32])
 pub fn row_to(nodes: usize, arcs: &[u32], marks: &[u8], to: usize, row: &mut [u32], cap: u32)
     requires { ⌜ Proper (netOf nodes (now arcs) (now marks)) × (length (now arcs) ≤ 1536) ⌝ }
     requires { ⌜ (length (now row) ≡ 64) × (to < nodes) × (cap < missing) ⌝ }
-    ensures { λ _. ⌜ RowTo (netOf nodes (now (arcs .entry)) (now (marks .entry))) cap to (now (row .exit)) ⌝ }
+    ensures { λ _. ⌜ RowTo (netOf nodes (now (arcs .entry)) (now (marks .entry))) cap to (now (row .exit)) × NoneBehind nodes (now (row .exit)) ⌝ }
 {
     let mut back = [0u32; ARC_NUMBERS];
     turn(arcs, &mut back);
@@ -84,6 +85,9 @@ pub fn fill_rows(arcs: &[u32], marks: &[u8], starts: &[usize], work: &mut [u32],
         let ss = now (starts .entry) in
         ⌜ ((N : Net) → StartsOf N (now (arcs .entry)) (now (marks .entry)) ss → RowsAre N cap ss (length ss) (now (work .exit))) ⌝ }
     ensures { λ _. let n = length (now (starts .entry)) * 64 in ⌜ drop n (now (work .exit)) ≡ drop n (now (work .entry)) ⌝ }
+    ensures { λ _.
+        let ss = now (starts .entry) in
+        ⌜ ((i : ℕ) → i < length ss → AwayMissing (now (arcs .entry)) (getD ss i 0) (rowAt (now (work .exit)) i)) ⌝ }
 {
     let chains = row_spread::chained(arcs);
     let mut i = 0;

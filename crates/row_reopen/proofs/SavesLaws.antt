@@ -14,11 +14,11 @@ use Rattle.rows.specs.Bits.{bitOf, alone}
 use Rattle.walks.specs.Graph.{least}
 use Rattle.rows.specs.Held.{held}
 use Rattle.rows.specs.Net.{Net, graph, closed}
-use Rattle.rows.specs.Rows.{RowIs, rowAt, RowsAre}
+use Rattle.rows.specs.Rows.{RowIs, AwaySame, rowAt, RowsAre}
 use Rattle.rows.proofs.BitLaws.{added-own, added-other}
 use Rattle.rows.proofs.WorkLaws.{part-in, part-before, row-entry}
 use Rattle.row_save.specs.Kept.{RowPut}
-use Rattle.row_reopen.specs.Openings.{Change, Idle, KeptRow, Mends, left, mended, Saves}
+use Rattle.row_reopen.specs.Openings.{Change, Idle, KeptRow, Mends, left, mended, Saves, Spared, RowsAway}
 
 -- a row whose numbers are as they were
 pub row-same : (i : ℕ) (work after : List ℕ) → i < 9 → length work ≡ 3648 → length after ≡ 3648
@@ -137,18 +137,32 @@ module _ (cap : ℕ) (C : Change) (work : List ℕ) where
     saves-more (left e t) = saves-left (λ q. true≢false (sym q ∙ e))
     saves-more (mended {after = after} t K) = saves-mended after (λ e k. t e (rw row-begun k)) K
 
+    pub spared-more : {after : List ℕ} {r : ℕ} → Mends n cap C kept mid after r → Spared n cap C work kept → Spared (n + 1) cap C work r
+    spared-more (left e t) P i h b = elim (ℕ-discrete i n) [ yes q ↦ (e, rw (q, ← row-begun) t) | no q ↦ P i (omega arith) b ]
+    spared-more (mended t K) P i h b = elim (ℕ-discrete i n) [
+      | yes q ↦ absurd (omega (arith, b, added-own kept n (omega arith), ap (bitOf (bitOr kept (alone n))) q))
+      | no q ↦ P i (omega arith) (sym (added-other kept n i (omega arith) q) ∙ b)
+    ]
+
     -- the rows before are as they were
+    entry-before : {after : List ℕ} {r : ℕ} → Mends n cap C kept mid after r → (i x : ℕ) → i < n → x < 64 → getD after (i * 64 + x) 0 ≡ getD mid (i * 64 + x) 0
+    entry-before (left e t) i x l h = refl
+    entry-before (mended t K) i x l h = K .other (i * 64 + x) (inl (omega arith)) (inl (omega arith))
+
+    pub away-before : {after : List ℕ} {r : ℕ} → Mends n cap C kept mid after r → (ys starts : List ℕ)
+        → AwaySame ys (getD starts n 0) (rowAt mid n) (rowAt after n) → RowsAway n ys starts work mid → RowsAway (n + 1) ys starts work after
+    away-before {after} M ys starts R B i h x hx a = elim (ℕ-discrete i n) [
+      | yes q ↦ rw q (sym (row-entry after n x hx) ∙ R x (rw q at a) ∙ row-entry mid n x hx ∙ S .beside (n * 64 + x) (omega arith) (omega arith))
+      | no q ↦ entry-before M i x (omega arith) hx ∙ B i (omega arith) x hx a
+    ]
+
     pub rows-before : {after : List ℕ} {r : ℕ} → Mends n cap C kept mid after r → (N : Net) (starts : List ℕ) → N .nodes ≤ 64
         → RowIs N cap (getD starts n 0) (rowAt after n) → RowsAre N cap starts n mid → RowsAre N cap starts (n + 1) after
     rows-before {after} M N starts small R B i h x hx = go (ℕ-discrete i n)
       where
-        same : {a : List ℕ} {r : ℕ} → Mends n cap C kept mid a r → i < n → getD a (i * 64 + x) 0 ≡ getD mid (i * 64 + x) 0
-        same (left e t) l = refl
-        same (mended t K) l = K .other (i * 64 + x) (inl (omega arith)) (inl (omega arith))
-
         go : Dec (i ≡ n) → getD after (i * 64 + x) 0 ≡ held cap (least (graph N) (closed N) [] (getD starts i 0) x)
         go (yes q) = rw q (sym (row-entry after n x (omega arith)) ∙ R x hx)
-        go (no q) = same M (omega arith) ∙ B i (omega arith) x hx
+        go (no q) = entry-before M i x (omega arith) (omega arith) ∙ B i (omega arith) x hx
 
 pub part-row : (work : List ℕ) (i : ℕ) → take (i * 64 + 64 - i * 64) (drop (i * 64) work) ≡ rowAt work i
 part-row work i = let e : i * 64 + 64 - i * 64 ≡ 64 = omega arith in ap (λ (n : ℕ). take n (drop (i * 64) work)) e

@@ -10,7 +10,7 @@ use lib.ListN.{length, getD, set}
 use Rattle.walks.specs.Graph.{closedIn}
 use Rattle.rows.specs.Bits.{bitOf, alone}
 use Rattle.rows.specs.Net.{Net, netOf, arcCount, tailIn, headIn, weightIn, Proper, Packed}
-use Rattle.rows.specs.Rows.{RowIs, Sound, StartOf, rowAt, Tried, RowsAre, RowsSound, StartsOf}
+use Rattle.rows.specs.Rows.{RowIs, Away, Sound, StartOf, rowAt, Tried, RowsAre, RowsSound, StartsOf}
 use Rattle.row_spread.specs.Active.{Mendable}
 
 -- a change: a node that is opened, or an arc with its ends and weight
@@ -58,6 +58,15 @@ pub record Saves (n cap : ℕ) (C : Change) (work after : List ℕ) (kept : ℕ)
   pub cuts : (i : ℕ) → i < n → bitOf kept i ≡ 1 → C .node ≡ false → Idle cap C (rowAt work i) → ⊥
   pub nodes : C .node ≡ true → (i : ℕ) → i < n → bitOf kept i ≡ 1
 
+-- the first n rows that are not kept: an arc, which cuts no entry of them
+abbrev pub Spared : ℕ → ℕ → Change → List ℕ → ℕ → Type 0
+Spared n cap C work kept = (i : ℕ) → i < n → bitOf kept i ≡ 0 → (C .node ≡ false) × Idle cap C (rowAt work i)
+
+-- the entries of the first n rows for nodes that no arc enters are as they were
+abbrev pub RowsAway : ℕ → List ℕ → List ℕ → List ℕ → List ℕ → Type 0
+RowsAway n ys starts work after =
+    (i : ℕ) → i < n → (v : ℕ) → v < 64 → Away ys (getD starts i 0) v → getD after (i * 64 + v) 0 ≡ getD work (i * 64 + v) 0
+
 -- a row of which the arc cuts no entry holds the least lengths as it is
 abbrev pub Kept : Net → ℕ → Change → List ℕ → List ℕ → Type 0
 Kept N cap C starts work = (i : ℕ) → i < length starts → C .node ≡ false → Idle cap C (rowAt work i) → RowIs N cap (getD starts i 0) (rowAt work i)
@@ -89,10 +98,13 @@ pub record Entering (m : ℕ) (ys : List ℕ) (v active : ℕ) : Type 0 where
   pub tails : (j : ℕ) → j < m → headIn ys j ≡ v → bitOf active (tailIn ys j) ≡ 1
   pub only : (x : ℕ) → (x ≡ v → ⊥) → ((j : ℕ) → j < m → headIn ys j ≡ v → tailIn ys j ≡ x → ⊥) → bitOf active x ≡ 0
 
--- What opening item i does: the rows hold the least lengths for the marks, and the rows that were another before are kept. An arc to a closed node
--- changes nothing.
+-- What opening item i does: the rows hold the least lengths for the marks, and the rows that were another before are kept, no others. An arc to a
+-- closed node changes nothing.
 pub record ItemOpened (n : ℕ) (xs : List ℕ) (i cap : ℕ) (marks ys starts work after : List ℕ) (kept : ℕ) : Type 0 where
   pub rows : (old : List ℕ) → Opened n xs old i marks ys starts → RowsAre (netOf n xs old) cap starts (length starts) work
       → RowsAre (netOf n xs marks) cap starts (length starts) after
   pub saves : Saves (length starts) cap (changeOf (ltb i n) (tailIn xs (i - n)) (headIn xs (i - n)) (weightIn xs (i - n))) work after kept
+  pub away : RowsAway (length starts) ys starts work after
+  pub spared : (n ≤ i → closedIn marks (headIn xs (i - n)) ≡ false)
+      → Spared (length starts) cap (changeOf (ltb i n) (tailIn xs (i - n)) (headIn xs (i - n)) (weightIn xs (i - n))) work kept
   pub shut : n ≤ i → closedIn marks (headIn xs (i - n)) ≡ true → kept ≡ 0

@@ -5,9 +5,9 @@ ghost use Prim.Native.Nat.{_+_, _*_, _≤_, _<_};
 ghost use lib.ListN.{length, take};
 ghost use Rattle.rows.specs.Held.{missing};
 ghost use Rattle.rows.specs.Net.{netOf, arcCount, Proper, Joins};
-ghost use Rattle.rows.specs.Rows.{Tried, rowAt, StartsFit, scratchNumbers};
+ghost use Rattle.rows.specs.Rows.{Tried, AwaySame, rowAt, StartsFit, scratchNumbers};
 ghost use Rattle.row_links.specs.Links.{Shaped};
-ghost use Rattle.row_reopen.specs.Openings.{changeOf, Mends, RowMended, Saves, RowsMended, Entering, ItemOpened};
+ghost use Rattle.row_reopen.specs.Openings.{changeOf, Mends, RowMended, Saves, Spared, RowsAway, RowsMended, Entering, ItemOpened};
 use row_links::CHAINS;
 use row_spread::Mend;
 use rows::ROW_LENGTH;
@@ -73,7 +73,8 @@ fn mend_kept(row: Row, change: Change, packed: &[u32], marks: &[u8], work: &mut 
         let C = changeOf (change .node) (change .tail) (change .head) (change .weight) in
         let ys = take (row .count * 3) (now (packed .entry)) in
         let old = rowAt (now (work .entry)) (row .number) in
-        ⌜ RowMended (row .cap) ys (now (marks .entry)) (row .from) (change .active) C old (rowAt (now (work .exit)) (row .number)) ⌝ }
+        let new = rowAt (now (work .exit)) (row .number) in
+        ⌜ RowMended (row .cap) ys (now (marks .entry)) (row .from) (change .active) C old new × AwaySame ys (row .from) old new ⌝ }
 {
     let number = row.number;
     let at = number * ROW_LENGTH;
@@ -124,6 +125,12 @@ fn mend_rows(
         let C = changeOf (change .node) (change .tail) (change .head) (change .weight) in
         let ys = take (opening .count * 3) (now (packed .entry)) in
         ⌜ RowsMended (opening .cap) ys (now (marks .entry)) (now (starts .entry)) (change .active) C (now (work .entry)) (now (work .exit)) ⌝ }
+    ensures { λ r.
+        let C = changeOf (change .node) (change .tail) (change .head) (change .weight) in
+        let ys = take (opening .count * 3) (now (packed .entry)) in
+        let ss = now (starts .entry) in
+        let before = now (work .entry) in
+        ⌜ RowsAway (length ss) ys ss before (now (work .exit)) × Spared (length ss) (opening .cap) C before r ⌝ }
 {
     let mut kept: u64 = 0;
     let mut i = 0;

@@ -49,6 +49,12 @@ module _ (end : ℕ → ℕ) (u : ℕ) where
       go (no p) (yes d) f = p (ap end (sym d) ∙ q)
       go (no p) (no d) f = f (omega arith) (omega (arith, last-there i p))
 
+-- a number of a list of zeros, or one behind it
+pub zeros-behind : (n k : ℕ) → getD {A = ℕ} (replicate n 0) k 0 ≡ 0
+zeros-behind zero k = refl
+zeros-behind (suc n) zero = refl
+zeros-behind (suc n) (suc k) = zeros-behind n k
+
 module _ (end : ℕ → ℕ) where
   pub chain-begun : ChainedBy end 0 (replicate 576 0)
   unfolding lastAt
@@ -94,6 +100,13 @@ module _ (end : ℕ → ℕ) where
       before k (no q) h =
           getD-set-other more (end i) (64 + k) (i + 1) 0 (λ e. omega arith)
           ∙ getD-set-other chains (64 + i) (64 + k) (getD chains (end i) 0) 0 (λ e. omega arith) ∙ C .befores k (omega arith)
+
+  -- what is behind is as it was
+  pub chain-behind : (i : ℕ) (chains : List ℕ) → end i < 64 → (k : ℕ) → 64 + i < k
+      → getD (set (set chains (64 + i) (getD chains (end i) 0)) (end i) (i + 1)) k 0 ≡ getD chains k 0
+  chain-behind i chains ht k h =
+      getD-set-other (set chains (64 + i) (getD chains (end i) 0)) (end i) k (i + 1) 0 (λ e. omega arith)
+      ∙ getD-set-other chains (64 + i) k (getD chains (end i) 0) 0 (λ e. omega arith)
 
   -- the laws of the numbers of a chain
   module _ {m : ℕ} {chains : List ℕ} (C : ChainedBy end m chains) where

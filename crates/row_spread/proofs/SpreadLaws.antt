@@ -11,7 +11,7 @@ use lib.Seq.{getD-set-same, getD-set-other}
 use lib.Bits.{bitOr, bitXor}
 use mathlib.Core.Bool.{Bool, true, false, true≢false, false≢true}
 use Rattle.rows.specs.Net.{arcCount, tailIn, headIn, weightIn}
-use Rattle.rows.specs.Rows.{total, Tried, ArcTried, same, cut, Settled, Started, Keeps}
+use Rattle.rows.specs.Rows.{total, Tried, ArcTried, same, cut, Settled, Started, Keeps, AwaySame}
 use Rattle.rows.proofs.RowLaws.{Fits, falls, keep}
 use Rattle.rows.specs.Bits.{bitOf, alone}
 use Rattle.row_spread.specs.Active.{Still, Tries, idle, fell, Mendable, Added, none, more}
@@ -61,6 +61,10 @@ module _ {cap : ℕ} {xs : List ℕ} {i : ℕ} {d : List ℕ} {active : ℕ} (f 
   pub added-keeps : {e : List ℕ} {r : ℕ} → Added cap xs i d active e r → Keeps cap xs d e
   added-keeps (none t) = keep f (same t)
   added-keeps (more c lt o l) = keep f (cut c lt)
+
+  pub added-away : {e : List ℕ} {r : ℕ} (s : ℕ) → Added cap xs i d active e r → AwaySame xs s d e
+  added-away s (none t) v a = refl
+  added-away s (more c lt o l) v a = getD-set-other d (headIn xs i) v _ 0 (λ q. a .arcs i (f .below) (sym q))
 
   -- an arc tried that waited
   pub added-waits : (u : ℕ) {e : List ℕ} {r : ℕ} → tailIn xs i ≡ u → Added cap xs i d active e r → Waiting cap xs active u (i + 1) d
@@ -175,3 +179,8 @@ module _ {cap : ℕ} {xs marks : List ℕ} {s active : ℕ} {d row : List ℕ} (
       tried j h b =
           tried-lower cap d (set d s 0) (tailIn xs j) (headIn xs j) (weightIn xs j) (tail (tailIn xs j) (ℕ-discrete (tailIn xs j) s) b)
           (head (headIn xs j) (ℕ-discrete (headIn xs j) s)) (M .still .tried j h b)
+
+-- no other entry is touched
+pub started-away : (marks : List ℕ) {s : ℕ} {d row : List ℕ} → Started marks s d row → (v : ℕ) → (v ≡ s → ⊥) → getD row v 0 ≡ getD d v 0
+started-away marks (inr w) v q = ap (λ (l : List ℕ). getD l v 0) (w .1)
+started-away marks {s} {d} (inl w) v q = ap (λ (l : List ℕ). getD l v 0) (w .1) ∙ getD-set-other d s v 0 0 q

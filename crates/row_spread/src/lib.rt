@@ -1,10 +1,10 @@
 // A row mended from a few nodes on, by the arcs that leave them, chained by their tails.
 ghost use mathlib.Core.Path.{_≡_};
-ghost use Prim.Native.Nat.{ℕ, _*_, _≤_, _<_};
-ghost use lib.ListN.{length};
+ghost use Prim.Native.Nat.{ℕ, _+_, _*_, _≤_, _<_};
+ghost use lib.ListN.{length, getD};
 ghost use Rattle.rows.specs.Held.{missing};
 ghost use Rattle.rows.specs.Net.{arcCount, Joins};
-ghost use Rattle.rows.specs.Rows.{Keeps, Settled};
+ghost use Rattle.rows.specs.Rows.{Keeps, Settled, AwaySame};
 ghost use Rattle.rows.specs.Bits.{bitOf};
 ghost use Rattle.row_spread.specs.Active.{Still, Nearest, Tries, Added, Mended};
 ghost use Rattle.row_spread.specs.Arcs.{Chained};
@@ -17,7 +17,9 @@ pub const CHAIN_NUMBERS: usize = ROW_LENGTH + ARCS;
 // Chains the arcs by their tails: number `u` leads to the last arc that leaves node `u`, number 64 + `i` from arc `i` to the one before it.
 pub fn chained(arcs: &[u32]) -> [u32; CHAIN_NUMBERS]
     requires { ⌜ Joins 64 (now arcs) × (length (now arcs) ≤ 1536) ⌝ }
-    ensures { λ r. ⌜ Chained (now (arcs .entry)) r ⌝ }
+    ensures { λ r.
+        let xs = now (arcs .entry) in
+        ⌜ Chained xs r × ((i : ℕ) → 64 + arcCount xs ≤ i → getD r i 0 ≡ 0) ⌝ }
 {
     let mut chains = [0u32; CHAIN_NUMBERS];
     let m = arcs.len() / 3;
@@ -52,7 +54,11 @@ fn spread_node(
     cap: u32,
 ) -> u64
     requires { ⌜ Joins 64 (now arcs) × Chained (now arcs) (now chains) × (length (now row) ≡ 64) × (node < 64) × (bitOf active node ≡ 1) ⌝ }
-    ensures { λ _. ⌜ Keeps cap (now (arcs .entry)) (now (row .entry)) (now (row .exit)) ⌝ }
+    ensures { λ _.
+        let xs = now (arcs .entry) in
+        let d = now (row .entry) in
+        let e = now (row .exit) in
+        ⌜ Keeps cap xs d e × ((s : ℕ) → AwaySame xs s d e) ⌝ }
     ensures { λ r. ⌜ (Still cap (now (arcs .entry)) active (now (row .entry)) → Still cap (now (arcs .entry)) r (now (row .exit))) ⌝ }
     ensures { λ r. ⌜ Tries (now (row .entry)) ((bitOf r node ≡ 0) × ((x : ℕ) → bitOf active x ≡ 0 → bitOf r x ≡ 0)) (now (row .exit)) ⌝ }
 {
@@ -87,7 +93,11 @@ fn nearest(row: &[u32], active: u64) -> usize
 // can cut no entry, so none can then. The nearest node goes first, so that a row takes the same time however the nodes are numbered.
 fn spread_active(arcs: &[u32], chains: &[u32], row: &mut [u32], active: u64, cap: u32)
     requires { ⌜ Joins 64 (now arcs) × Chained (now arcs) (now chains) × (length (now row) ≡ 64) ⌝ }
-    ensures { λ _. ⌜ Keeps cap (now (arcs .entry)) (now (row .entry)) (now (row .exit)) ⌝ }
+    ensures { λ _.
+        let xs = now (arcs .entry) in
+        let d = now (row .entry) in
+        let e = now (row .exit) in
+        ⌜ Keeps cap xs d e × ((s : ℕ) → AwaySame xs s d e) ⌝ }
     ensures { λ _.
         let xs = now (arcs .entry) in
         ⌜ (Still cap xs active (now (row .entry)) → Settled cap xs 0 (arcCount xs) (now (row .exit))) ⌝ }
@@ -114,7 +124,9 @@ pub fn mend_row(mend: Mend, arcs: &[u32], chains: &[u32], marks: &[u8], row: &mu
     requires { ⌜ (length (now row) ≡ 64) × (mend .from < 64) × (mend .from < length (now marks)) × (mend .cap < missing) ⌝ }
     ensures { λ _.
         let xs = now (arcs .entry) in
-        ⌜ Mended (mend .cap) xs (now (marks .entry)) (mend .from) (mend .active) (now (row .entry)) (now (row .exit)) ⌝ }
+        let d = now (row .entry) in
+        let e = now (row .exit) in
+        ⌜ Mended (mend .cap) xs (now (marks .entry)) (mend .from) (mend .active) d e × AwaySame xs (mend .from) d e ⌝ }
 {
     let cap = mend.cap;
     rows::start(marks, mend.from, row);

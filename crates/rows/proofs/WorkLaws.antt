@@ -9,7 +9,7 @@ use borrow.Author.Count.{below-more}
 use Rattle.rows.proofs.OpenLaws.{row-sound}
 use Rattle.rows.specs.Held.{missing}
 use Rattle.rows.specs.Net.{Net}
-use Rattle.rows.specs.Rows.{RowIs, Sound, rowAt, RowsAre, RowsSound}
+use Rattle.rows.specs.Rows.{RowIs, AwayMissing, Sound, rowAt, RowsAre, RowsSound}
 
 -- an entry of what is written, and one before it
 pub part-in : (at v : ℕ) (xs ys zs : List ℕ) → at ≤ length xs → v < length ys → getD (take at xs ++ (ys ++ zs)) (at + v) 0 ≡ getD ys v 0
@@ -20,6 +20,10 @@ part-in at v xs ys zs h k =
 pub part-before : (at j : ℕ) (xs zs : List ℕ) → at ≤ length xs → j < at → getD (take at xs ++ zs) j 0 ≡ getD xs j 0
 part-before at j xs zs h k = List·getD-append (take at xs) zs 0 j (rw (length-take-le at xs h) k) ∙ getD-take at xs j 0 k
 
+-- an entry of row i
+pub row-entry : (work : List ℕ) (i v : ℕ) → v < 64 → getD (rowAt work i) v 0 ≡ getD work (i * 64 + v) 0
+row-entry work i v h = getD-take 64 (drop (i * 64) work) v 0 h ∙ getD-drop (i * 64) work v 0
+
 -- row i is written behind those before it
 module _ (i : ℕ) (work ys zs : List ℕ) (room : i * 64 + 64 ≤ length work) (long : length ys ≡ 64) where
   pub rows-more : (N : Net) (cap : ℕ) (starts : List ℕ) → N .nodes ≤ 64 → RowIs N cap (getD starts i 0) ys → RowsAre N cap starts i work
@@ -27,6 +31,15 @@ module _ (i : ℕ) (work ys zs : List ℕ) (room : i * 64 + 64 ≤ length work) 
   rows-more N cap starts few R B =
       below-more _ i (λ j hj v hv. part-before (i * 64) (j * 64 + v) work (ys ++ zs) (omega arith) (omega arith) ∙ B j hj v hv)
       (λ v hv. part-in (i * 64) v work ys zs (omega arith) (omega arith) ∙ R v hv)
+
+  pub away-more : (xs starts : List ℕ) → AwayMissing xs (getD starts i 0) ys → ((j : ℕ) → j < i → AwayMissing xs (getD starts j 0) (rowAt work j))
+      → (j : ℕ) → j < i + 1 → AwayMissing xs (getD starts j 0) (rowAt (take (i * 64) work ++ (ys ++ zs)) j)
+  away-more xs starts R B =
+      below-more _ i
+      (λ j hj v hv a.
+      row-entry (take (i * 64) work ++ (ys ++ zs)) j v hv ∙ part-before (i * 64) (j * 64 + v) work (ys ++ zs) (omega arith) (omega arith)
+      ∙ sym (row-entry work j v hv) ∙ B j hj v hv a)
+      (λ v hv a. row-entry (take (i * 64) work ++ (ys ++ zs)) i v hv ∙ part-in (i * 64) v work ys zs (omega arith) (omega arith) ∙ R v hv a)
 
   pub rest-more : (work₀ : List ℕ) → zs ≡ drop 64 (drop (i * 64) work) → drop (i * 64) work ≡ drop (i * 64) work₀
       → drop ((i + 1) * 64) (take (i * 64) work ++ (ys ++ zs)) ≡ drop ((i + 1) * 64) work₀
@@ -40,9 +53,6 @@ module _ (i : ℕ) (work ys zs : List ℕ) (room : i * 64 + 64 ≤ length work) 
 pub row-begun : (N : Net) (cap s i k : ℕ) (work work₀ : List ℕ) → k ≡ 64 → drop (i * 64) work ≡ drop (i * 64) work₀ → Sound N cap s (rowAt work₀ i)
     → Sound N cap s (take k (drop (i * 64) work))
 row-begun N cap s i k work work₀ q e S = rw (q, e) S
-
-pub row-entry : (work : List ℕ) (i v : ℕ) → v < 64 → getD (rowAt work i) v 0 ≡ getD work (i * 64 + v) 0
-row-entry work i v h = getD-take 64 (drop (i * 64) work) v 0 h ∙ getD-drop (i * 64) work v 0
 
 -- rows that hold least lengths are sound
 pub rows-sound : (N : Net) (cap : ℕ) (starts work : List ℕ) → N .nodes ≤ 64 → cap < missing → RowsAre N cap starts (length starts) work → RowsSound N cap starts work

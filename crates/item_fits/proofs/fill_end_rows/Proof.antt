@@ -46,7 +46,7 @@ returns c =
     let t = c .before .before .row-to in
     let l = f .kept .1 .1 .1 .1 .0 ∙ length-take-le 64 (s .args .rows .now) (omega arith) in
     let m = t .kept .1 .1 .1 .1 .0 ∙ second-long (f .last .1 .1 .1 .1 .0) (s .args .rows .now) l (s .pre .1) in
-    rows-ready (f .last .1 .1 .1 .1 .0) (s .args .rows .now) l (s .pre .1) (s .args .header) (s .args .arcs .now) (s .args .marks .now) (t .last .1 .1 .1 .1 .0) (s .pre .0) m (f .ensures) (t .ensures)
+    rows-ready (f .last .1 .1 .1 .1 .0) (s .args .rows .now) l (s .pre .1) (s .args .header) (s .args .arcs .now) (s .args .marks .now) (t .last .1 .1 .1 .1 .0) (s .pre .0) m (f .ensures .0) (t .ensures .0)
 
 pub fill-end-rows-spec : {M : Type 1} → statement M
 fill-end-rows-spec =

@@ -49,7 +49,7 @@ returns c =
     let k = front-count N (s .args .query .from) (s .args .goals .now) ss (t .ensures) l in (
       rowed-of (length (take (length (s .args .goals .now) + 1) ss)) k (front-starts N (s .args .query .from) (s .args .goals .now) ss (t .ensures) l)
           (r .ensures .0 N (starts-of N (s .args .query .from) (s .args .goals .now) ss (t .ensures) l (take (c .before .before .before .before .before .before .before .before .before .before .pack .result) (c .before .before .before .before .before .before .before .before .before .before .pack .last .1 .1 .1 .0)) (s .pre .0 .0) (c .before .before .before .before .before .before .before .before .before .before .pack .ensures .1))),
-      drop-further (length (take (length (s .args .goals .now) + 1) ss) * 64) 576 (r .last .1 .1 .1 .0) (s .args .work .now) (omega (arith, s .pre .0 .1 .eight)) (r .ensures .1),
+      drop-further (length (take (length (s .args .goals .now) + 1) ss) * 64) 576 (r .last .1 .1 .1 .0) (s .args .work .now) (omega (arith, s .pre .0 .1 .eight)) (r .ensures .1 .0),
     )
 
 pub start-rows-spec : {M : Type 1} → statement M

@@ -4,6 +4,7 @@ use native.Mathlib.Omega.{arith}
 use lib.Seq.{length-take-le}
 use Rattle.row_arcs.proofs.PackLaws.{packed-joins}
 use Rattle.rows.specs.Net.{netOf}
+use Rattle.row_fill.proofs.FillLaws.{behind-away}
 use borrow.Author.Needs.{needs}
 use Rattle.row_fill.proofs.row_from.Statement.{statement}
 use Rattle.row_fill.proofs.row_from.Tie as tie
@@ -23,13 +24,16 @@ slice-aggregate-fill-row c = sym (length-take-le (c .before .before .before .bef
 fill-row-requires : tie.Need-fill-row-requires
 fill-row-requires c κs =
     let s = c .before .before .before .before .before .before .before .before .before .before .before in
-    ((packed-joins (s .pre .0 .0) (c .before .before .before .before .before .before .pack .ensures .1), c .before .before .before .chained .ensures), (s .pre .1 .0, omega (arith, s .pre .0 .0 .few), omega (arith, s .pre .0 .0 .marked), s .pre .1 .2))
+    ((packed-joins (s .pre .0 .0) (c .before .before .before .before .before .before .pack .ensures .1), c .before .before .before .chained .ensures .0), (s .pre .1 .0, omega (arith, s .pre .0 .0 .few), omega (arith, s .pre .0 .0 .marked), s .pre .1 .2))
 
 returns : tie.Need-returns
 returns c =
     let s = c .before .before .before .before .before .before .before .before .before .before .before .before .before .before in
-    c .before .before .fill-row .ensures (netOf (s .args .nodes) (s .args .arcs .now) (s .args .marks .now))
-    (record { proper = s .pre .0 .0; marked = refl; packed = c .before .before .before .before .before .before .before .before .before .pack .ensures .1; node = s .pre .1 .1 })
+    let t = c .before .before .fill-row in
+    let P = c .before .before .before .before .before .before .before .before .before .pack .ensures .1 in (
+      t .ensures .0 (netOf (s .args .nodes) (s .args .arcs .now) (s .args .marks .now)) (record { proper = s .pre .0 .0; marked = refl; packed = P; node = s .pre .1 .1 }),
+      λ v h l. t .ensures .1 v l (behind-away (s .pre .0 .0) P (s .pre .1 .1) h),
+    )
 
 pub row-from-spec : {M : Type 1} → statement M
 row-from-spec =

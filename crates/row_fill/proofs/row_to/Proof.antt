@@ -24,8 +24,11 @@ returns : tie.Need-returns
 returns c =
     let s = c .before .before .before .before .before .before .before .before .before .before .before in
     let t = c .before .before .before .before .before .before .turn in
-    row-to (s .args .nodes) (s .args .arcs .now) (t .last .1 .0) (s .args .marks .now) (omega (arith, t .kept .1 .0)) (t .ensures) (s .args .cap) (s .args .to)
-    (c .before .before .row-from .last .1 .1 .1 .1 .0) (c .before .before .row-from .ensures)
+    let r = c .before .before .row-from in (
+      row-to (s .args .nodes) (s .args .arcs .now) (t .last .1 .0) (s .args .marks .now) (omega (arith, t .kept .1 .0)) (t .ensures) (s .args .cap) (s .args .to)
+          (r .last .1 .1 .1 .1 .0) (r .ensures .0),
+      r .ensures .1,
+    )
 
 pub row-to-spec : {M : Type 1} → statement M
 row-to-spec =

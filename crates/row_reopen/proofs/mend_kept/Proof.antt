@@ -1,6 +1,6 @@
 -- `row_reopen::mend_kept` meets its contract: a row of which the arc can cut no entry is left, and else it is kept before it is mended. Assumes nothing.
 use Prim.Native.Nat.{ℕ, _+_, _*_, _-_}
-use mathlib.Core.Path.{_≡_, sym, ap, _∙_}
+use mathlib.Core.Path.{_≡_, refl, sym, ap, _∙_}
 use native.Mathlib.Omega.{arith}
 use borrow.Author.Needs.{needs}
 use borrow.Rule.Slice.PartMut.{mid-len, postOf}
@@ -23,7 +23,7 @@ returns c =
     let i = s .args .row .number in
     let t = rw (part-row (s .args .work .now) i) at (c .before .may-cut .ensures) in
     let f = t .0 (not-true _ (c .if1 .taken)) in
-    (left (f .0) (f .1), λ N A h M k. k (f .0) (f .1))
+    (left (f .0) (f .1), (λ N A h M k. k (f .0) (f .1), λ v a. refl))
 
 slice-aggregate-mend-row : tie.Need-slice-aggregate-mend-row
 slice-aggregate-mend-row c = let s = c .before .before .before .before .before .before .before .before .before .before .before .before .before in sym (length-take-le (s .args .row .count * 3) (s .args .packed .now) (omega (arith, s .pre .0 .0 .room, s .pre .0 .0 .long)))
@@ -56,7 +56,7 @@ returns-2 c =
     let e = row-there i (s .args .work .now) mid ys zs (s .pre .0 .1) (s .pre .0 .2) long size rest P in
     let f = rw (part-row (s .args .work .now) i) at (c .before .before .before .before .before .before .before .before .before .before .before .before .before .may-cut .ensures) in (
       mended (f .1 (not-false _ (c .before .before .before .before .before .before .before .before .before .before .before .before .if1 .left))) (row-kept i (s .args .work .now) mid ys zs (s .pre .0 .1) (s .pre .0 .2) long size rest P),
-      λ N A h M _. rw w (t .ensures N A (rw e h) (rw e M)),
+      (λ N A h M _. rw w (t .ensures .0 N A (rw e h) (rw e M)), rw (w, ← e) (t .ensures .1)),
     )
 
 pub mend-kept-spec : {M : Type 1} → statement M

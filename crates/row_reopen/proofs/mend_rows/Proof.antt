@@ -4,8 +4,8 @@ use mathlib.Core.Path.{_≡_, refl, _∙_, subst}
 use native.Mathlib.Omega.{arith}
 use lib.ListN.{length, take}
 use Rattle.rows.specs.Rows.{RowsAre}
-use Rattle.row_reopen.specs.Openings.{changeOf, Saves, RowsMendedTo}
-use Rattle.row_reopen.proofs.SavesLaws.{saves-begun, saves-more, row-begun, rows-before}
+use Rattle.row_reopen.specs.Openings.{changeOf, Saves, Spared, RowsAway, RowsMendedTo}
+use Rattle.row_reopen.proofs.SavesLaws.{saves-begun, saves-more, spared-more, row-begun, away-before, rows-before}
 use Rattle.row_reopen.proofs.mend_rows.Statement.{statement}
 use Rattle.row_reopen.proofs.mend_rows.Tie as tie
 
@@ -15,12 +15,14 @@ Inv-loop opening change packed marks starts work₀ kept₀ i₀ work kept i =
     × Saves i (opening .cap) (changeOf (change .node) (change .tail) (change .head) (change .weight)) work₀ work kept
     × RowsMendedTo i (opening .cap) (take (opening .count * 3) packed) marks starts (change .active)
     (changeOf (change .node) (change .tail) (change .head) (change .weight)) work₀ work
+    × RowsAway i (take (opening .count * 3) packed) starts work₀ work
+    × Spared i (opening .cap) (changeOf (change .node) (change .tail) (change .head) (change .weight)) work₀ kept
 
 abbrev μ-loop : tie.MeasureT-loop
 μ-loop opening change packed marks starts work₀ kept₀ i₀ work kept i = length starts - i
 
 loop-holds : tie.Need-loop-holds Inv-loop μ-loop
-loop-holds c = (omega arith, refl, saves-begun _ _ _, λ N A a b k j h. absurd (omega arith))
+loop-holds c = (omega arith, refl, saves-begun _ _ _, λ N A a b k j h. absurd (omega arith), λ j h. absurd (omega arith), λ j h. absurd (omega arith))
 
 mend-kept-requires : tie.Need-mend-kept-requires Inv-loop μ-loop
 mend-kept-requires c κs =
@@ -47,8 +49,10 @@ loop-again c =
       λ N A b m k.
           rows-before (a .opening .cap) C (a .work .now) few long long′ (l .inv .2) (t .ensures .0)
           N (a .starts .now) (A .proper .few)
-          (t .ensures .1 N (record { proper = A .proper; marked = A .marked; packed = A .packed; node = A .nodes (l .i) h }) (rw e (b (l .i) h)) (rw e (m (l .i) h))
+          (t .ensures .1 .0 N (record { proper = A .proper; marked = A .marked; packed = A .packed; node = A .nodes (l .i) h }) (rw e (b (l .i) h)) (rw e (m (l .i) h))
           (rw e (k (l .i) h))) (l .inv .3 N A b m k),
+      away-before (a .opening .cap) C (a .work .now) few long long′ (l .inv .2) (t .ensures .0) _ (a .starts .now) (t .ensures .1 .1) (l .inv .4),
+      spared-more (a .opening .cap) C (a .work .now) few long long′ (l .inv .2) (t .ensures .0) (l .inv .5),
     )
 
 same-length : tie.Need-same-length Inv-loop μ-loop
@@ -60,7 +64,10 @@ returns c =
     let l = c .before .loop in
     let q : l .i ≡ length (s .args .starts .now) = omega arith in (
       subst (λ (n : ℕ). Saves n (s .args .opening .cap) (changeOf (s .args .change .node) (s .args .change .tail) (s .args .change .head) (s .args .change .weight)) (s .args .work .now) (l .work) (l .kept)) q (l .inv .2),
-      λ N A b m k. subst (λ (n : ℕ). RowsAre N (s .args .opening .cap) (s .args .starts .now) n (l .work)) q (l .inv .3 N A b m k),
+      (
+        λ N A b m k. subst (λ (n : ℕ). RowsAre N (s .args .opening .cap) (s .args .starts .now) n (l .work)) q (l .inv .3 N A b m k),
+        (λ j h. l .inv .4 j (omega arith), λ j h. l .inv .5 j (omega arith)),
+      ),
     )
 
 pub mend-rows-spec : {M : Type 1} → statement M

@@ -21,7 +21,7 @@ returns c =
     let a = s .args in
     item-node (a .opening .nodes) (a .arcs .now) (a .opening .item) (a .opening .cap) (a .marks .now) (take (a .opening .count * 3) (a .packed .now)) (a .starts .now) (a .work .now)
     (c .before .before .mend-rows .last .1 .1 .1 .1 .1 .0) (c .before .before .mend-rows .result) (c .before .before .before .before .entering .result) (s .pre .0 .2) (c .before .before .before .before .before .before .before .if1 .taken) (c .before .before .before .before .entering .ensures) (c .before .before .mend-rows .ensures .0)
-    (c .before .before .mend-rows .ensures .1)
+    (c .before .before .mend-rows .ensures .1 .0) (c .before .before .mend-rows .ensures .1 .1 .0) (c .before .before .mend-rows .ensures .1 .1 .1)
 
 cast-tail : tie.Need-cast-tail
 cast-tail c = let s = c .before .before .before .before .before .before .before in let l : s .args .opening .item - s .args .opening .nodes < arcCount (s .args .arcs .now) = omega (arith, s .pre .0 .1) in let p = s .pre .0 .0 in omega (arith, p .tails (s .args .opening .item - s .args .opening .nodes) l, p .few)
@@ -59,7 +59,8 @@ returns-3 c =
     let p = s .pre .0 .0 in
     item-arc (a .opening .nodes) (a .arcs .now) (a .opening .item) (a .opening .cap) (a .marks .now) (take (a .opening .count * 3) (a .packed .now)) (a .starts .now) (a .work .now)
     (c .before .before .mend-rows2 .last .1 .1 .1 .1 .1 .0) (c .before .before .mend-rows2 .result) _ (s .pre .0 .2) (omega arith) (ne-eqb _ _ (c .before .before .before .before .before .if2 .left))
-    (bit-own _ (omega (arith, p .tails (a .opening .item - a .opening .nodes) l, p .few))) (c .before .before .mend-rows2 .ensures .0) (c .before .before .mend-rows2 .ensures .1)
+    (bit-own _ (omega (arith, p .tails (a .opening .item - a .opening .nodes) l, p .few))) (c .before .before .mend-rows2 .ensures .0) (c .before .before .mend-rows2 .ensures .1 .0)
+    (c .before .before .mend-rows2 .ensures .1 .1 .0) (c .before .before .mend-rows2 .ensures .1 .1 .1)
 
 pub open-item-spec : {M : Type 1} → statement M
 open-item-spec =

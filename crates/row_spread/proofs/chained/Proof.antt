@@ -1,21 +1,22 @@
 -- `row_spread::chained` meets its contract. The loop's invariant: the arcs below `i` are chained. Assumes nothing.
-use Prim.Native.Nat.{_-_, _≤_, _<_}
-use mathlib.Core.Path.{_≡_}
+use Prim.Native.Nat.{ℕ, _+_, _-_, _≤_, _<_}
+use mathlib.Core.Path.{_≡_, _∙_}
+use lib.ListN.{getD}
 use native.Mathlib.Omega.{arith}
 use Rattle.rows.specs.Net.{arcCount, tailIn}
-use Rattle.row_spread.proofs.ChainLaws.{chain-begun, chain-more}
+use Rattle.row_spread.proofs.ChainLaws.{chain-begun, chain-more, chain-behind, zeros-behind}
 use Rattle.row_spread.specs.Arcs.{ChainedBy}
 use Rattle.row_spread.proofs.chained.Statement.{statement}
 use Rattle.row_spread.proofs.chained.Tie as tie
 
 abbrev Inv-loop : tie.InvT-loop
-Inv-loop arcs chains₀ m i₀ chains i = (i ≤ arcCount arcs) × ChainedBy (tailIn arcs) i chains
+Inv-loop arcs chains₀ m i₀ chains i = (i ≤ arcCount arcs) × ChainedBy (tailIn arcs) i chains × ((k : ℕ) → 64 + i ≤ k → getD chains k 0 ≡ 0)
 
 abbrev μ-loop : tie.MeasureT-loop
 μ-loop arcs chains₀ m i₀ chains i = arcCount arcs - i
 
 loop-holds : tie.Need-loop-holds Inv-loop μ-loop
-loop-holds c = (omega arith, chain-begun _)
+loop-holds c = (omega arith, chain-begun _, λ k h. zeros-behind 576 k)
 
 cast-tail : tie.Need-cast-tail Inv-loop μ-loop
 cast-tail c = let s = c .before .before .before in omega (arith, s .pre .0 (c .before .before .loop .i) (c .before .loop-test .taken) .0)
@@ -45,14 +46,17 @@ loop-again : tie.Need-loop-again Inv-loop μ-loop
 loop-again c =
     let s = c .before .before .before in
     let l = c .before .before .loop in
-    let h : l .i < arcCount (s .args .arcs .now) = omega arith in
-    (omega arith, chain-more (tailIn (s .args .arcs .now)) (s .pre .0 (l .i) h .0) (omega (arith, s .pre .1)) (l .inv .1))
+    let h : l .i < arcCount (s .args .arcs .now) = omega arith in (
+      omega arith,
+      chain-more (tailIn (s .args .arcs .now)) (s .pre .0 (l .i) h .0) (omega (arith, s .pre .1)) (l .inv .1),
+      λ k z. chain-behind (tailIn (s .args .arcs .now)) (l .i) (l .chains) (s .pre .0 (l .i) h .0) k (omega arith) ∙ l .inv .2 k (omega arith),
+    )
 
 returns : tie.Need-returns Inv-loop μ-loop
 returns c =
     let l = c .before .loop in
     let q : l .i ≡ arcCount (c .before .before .args .arcs .now) = omega arith in
-    rw q at (l .inv .1)
+    (rw q at (l .inv .1), rw q at (l .inv .2))
 
 pub chained-spec : {M : Type 1} → statement M
 chained-spec =
