@@ -10,11 +10,11 @@ use Rattle.pass_verdict.specs.declared.Verdict.{Verdict}
 use Rattle.varint.specs.Answer.{small}
 use Rattle.sheet_required.proofs.HeldLaws.{items-are, goals-at, listed-front}
 use Rattle.pass_verdict.specs.VerdictFound.{VerdictFound}
-use Rattle.sheet_required.specs.Held.{Whole, sheetOf}
+use Rattle.sheet_required.specs.Held.{Whole}
 use Rattle.lists.proofs.AscendLaws.{ascends-distinct}
 use Rattle.lists.specs.Lists.{Put}
 use Rattle.sheet.proofs.SlipLaws.{Small, slip-size, numbers-below}
-use Rattle.sheet.specs.Sheet.{Sheet}
+use Rattle.sheet.specs.Sheet.{Sheet, sheetOf}
 use Rattle.sheet.specs.Slip.{Slip, slipNumbers, slipBytes, marksBytes}
 use Rattle.slip_reader.proofs.FormLaws.{small-below}
 use Rattle.slip_reader.specs.Form.{slipFrom}

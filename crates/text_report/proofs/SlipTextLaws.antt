@@ -25,7 +25,8 @@ use Rattle.slip_reader.specs.declared.SlipForm.{SlipForm}
 use Rattle.slip_reader.specs.declared.SlipRead.the-variants.{Got as SlipGot, Refused as SlipRefused}
 use Rattle.slip_reader.specs.Form.{slipFrom, valuesAt, slipOf, SlipCounts}
 use Rattle.slip_reader.proofs.FormLaws.{small-below}
-use Rattle.pass_rules.specs.Pass.{finished, answerOf, passOn, verdictIn, markIn}
+use Rattle.sheet.specs.Answer.{finished, answerOf}
+use Rattle.pass_rules.specs.Pass.{passOn, verdictIn, markIn}
 use Rattle.pass_rules.specs.Verdict.{verdict, slipFor, passSlip}
 use Rattle.pass_rules.proofs.AcceptedLaws.{accepted-taken}
 use Rattle.pass_rules.proofs.SlipOfPass.{PassSlipIs, marks, blames, pass-slip-is, slip-first, new-marks-size}
