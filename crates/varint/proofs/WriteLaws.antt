@@ -16,7 +16,7 @@ use Rattle.varint.proofs.ReadLaws.{weights}
 use Rattle.varint.specs.Varint.{writeGroups, writeNumber, writeNumbers}
 use Rattle.varint.specs.Answer.{small}
 
-groups-last : (k x : ℕ) → x ≤ 127 → writeGroups k x ≡ x ∷ []
+pub groups-last : (k x : ℕ) → x ≤ 127 → writeGroups k x ≡ x ∷ []
 unfolding writeGroups
 groups-last zero x h = refl
 groups-last (suc k) x h = let l : x < 128 = omega arith in simp (lt-ltb _ _ l)
