@@ -3,7 +3,7 @@
 use Prim.Native.Nat.{ℕ, zero, suc, _+_, _*_}
 use mathlib.Core.Path.{_≡_, refl, ap, _∙_}
 use mathlib.Core.Bool.{Bool, true, false}
-use mathlib.Core.List.{List, [], _++_}
+use mathlib.Core.List.{[], _++_}
 use native.Mathlib.Omega.{arith}
 use lib.ListN.{length}
 use lib.Dec.{eqb, leb}
@@ -29,7 +29,7 @@ regroup (suc h) s a m r e = refl
 regroup zero s zero m r e = rw e
 regroup zero s (suc a) m r e = rw e
 
-sized-fault : (d : Draft) → Sized d → sizeFault d ≡ 0
+pub sized-fault : (d : Draft) → Sized d → sizeFault d ≡ 0
 unfolding sizeFault fault
 sized-fault d s = rw (eq-eqb _ _ (s .0), eq-eqb _ _ (s .1))
 

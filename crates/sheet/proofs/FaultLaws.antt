@@ -20,12 +20,12 @@ use Rattle.sheet.specs.Writer.{fault, firstOf, headerFault, sizeFault, a
 abbrev pub Sized : Draft → Type 0
 Sized d = (length (d .arcs) ≡ 3 * d .header .arcs) × (length (d .marks) ≡ d .header .nodes + d .header .arcs)
 
-first-none : (a b : ℕ) → firstOf a b ≡ 0 → (a ≡ 0) × (b ≡ 0)
+pub first-none : (a b : ℕ) → firstOf a b ≡ 0 → (a ≡ 0) × (b ≡ 0)
 unfolding firstOf
 first-none zero b e = (refl, e)
 first-none (suc a) b e = absurd (omega arith)
 
-fault-none : (e : ℕ) (ok : Bool) → fault (suc e) ok ≡ 0 → ok ≡ true
+pub fault-none : (e : ℕ) (ok : Bool) → fault (suc e) ok ≡ 0 → ok ≡ true
 unfolding fault
 fault-none e true q = refl
 fault-none e false q = absurd (omega (arith, q))

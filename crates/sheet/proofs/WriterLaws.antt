@@ -27,7 +27,7 @@ use Rattle.sheet.specs.Sheet.{Sheet, headerOf}
 use Rattle.sheet.specs.Writer.{draftFault, writeOn}
 
 -- the numbers of the draft's sheet are the draft's
-sheet-numbers : (d : Draft) → Sized d → sheetNumbers (draftSheet d) ≡ draftNumbers d
+pub sheet-numbers : (d : Draft) → Sized d → sheetNumbers (draftSheet d) ≡ draftNumbers d
 unfolding sheetNumbers headerOf headerNumbers draftNumbers
 sheet-numbers d s = rw (arcs-many (d .arcs) (d .header .arcs) (s .0), flat-arcs (d .arcs) (d .header .arcs) (s .0))
 
