@@ -17,8 +17,8 @@ use Rattle.lists.proofs.Pigeonhole.{pigeonhole, below-all}
 use Rattle.walks.specs.Graph.{itemCount}
 use Rattle.walks.specs.Flat.{graphOf}
 use Rattle.sheet.specs.declared.Header.{Header}
-use Rattle.sheet.specs.Sheet.{Sheet}
-use Rattle.sheet_required.specs.Held.{sheetOf, Whole}
+use Rattle.sheet.specs.Sheet.{Sheet, sheetOf}
+use Rattle.sheet_required.specs.Held.{Whole}
 use Rattle.slip_reader.specs.Form.{slipFrom}
 use Rattle.sheet_required.proofs.HeldLaws.{items-are}
 use Rattle.check_rules.specs.Check.{goalCount, wellFormed}

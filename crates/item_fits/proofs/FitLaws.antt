@@ -9,12 +9,11 @@ use lib.Seq.{getD-drop}
 use lib.Dec.{leb}
 use borrow.Author.Tests.{le-leb}
 use Rattle.sheet.specs.declared.Header.{Header}
-use Rattle.sheet_required.specs.Held.{sheetOf}
 use Rattle.rows.proofs.ArcLaws.{item-at}
 use Rattle.rows.proofs.HeldLaws.{held-within}
 use Rattle.rows.specs.Held.{held, missing, code, atMost}
 use Rattle.rows.specs.Net.{netOf}
-use Rattle.sheet.specs.Sheet.{isForbidden}
+use Rattle.sheet.specs.Sheet.{isForbidden, sheetOf}
 use Rattle.pass_rules.specs.Verdict.{fitsSheet}
 use Rattle.walks.proofs.Through.{through-one}
 use Rattle.walks.specs.Flat.{graphOf}

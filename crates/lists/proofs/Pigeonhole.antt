@@ -111,6 +111,10 @@ pub below-append : (n : ℕ) (xs ys : List ℕ) → Below n xs → Below n ys �
 below-append n [] ys b c = c
 below-append n (x ∷ xs) ys b c = (b .0, below-append n xs ys (b .1) c)
 
+pub below-parts : (n : ℕ) (xs ys : List ℕ) → Below n (xs ++ ys) → Below n xs × Below n ys
+below-parts n [] ys b = (tt, b)
+below-parts n (x ∷ xs) ys b = let s = below-parts n xs ys (b .1) in ((b .0, s .0), s .1)
+
 pub below-le : (n m : ℕ) (xs : List ℕ) → n ≤ m → Below n xs → Below m xs
 below-le n m [] h b = tt
 below-le n m (x ∷ xs) h b = (omega (arith, b .0), below-le n m xs h (b .1))

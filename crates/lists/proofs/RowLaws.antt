@@ -10,10 +10,10 @@ use lib.Seq.{take-suc, take-all}
 use Rattle.lists.proofs.FrontLaws.{put-none, Room, put-kept, put-within, put-room, put-end, put-on, byte-within, put-byte}
 use Rattle.lists.specs.Lists.{Put}
 
--- `row` writes numbers in a row, each as `one` writes it
-pub record Rows (one : ℕ → List ℕ) (row : List ℕ → List ℕ) : Type 0 where
+-- `row` writes values in a row, each as `one` writes it
+pub record Rows {A : Type 0} (one : A → List ℕ) (row : List A → List ℕ) : Type 0 where
   pub empty : row [] ≡ []
-  pub first : (x : ℕ) (xs : List ℕ) → row (x ∷ xs) ≡ one x ++ row xs
+  pub first : (x : A) (xs : List A) → row (x ∷ xs) ≡ one x ++ row xs
 
 module _ {one : ℕ → List ℕ} {row : List ℕ → List ℕ} (R : Rows one row) where
   pub rows-append : (xs ys : List ℕ) → row (xs ++ ys) ≡ row xs ++ row ys

@@ -7,16 +7,16 @@ use native.Mathlib.Omega.{arith}
 use lib.ListN.{length, take}
 use Rattle.sheet.specs.declared.Header.{Header}
 use Rattle.pass_verdict.specs.declared.Verdict.{Verdict}
+use Rattle.varint.proofs.WriteLaws.{small-below}
 use Rattle.varint.specs.Answer.{small}
 use Rattle.sheet_required.proofs.HeldLaws.{items-are, goals-at, listed-front}
 use Rattle.pass_verdict.specs.VerdictFound.{VerdictFound}
-use Rattle.sheet_required.specs.Held.{Whole, sheetOf}
+use Rattle.sheet_required.specs.Held.{Whole}
 use Rattle.lists.proofs.AscendLaws.{ascends-distinct}
 use Rattle.lists.specs.Lists.{Put}
 use Rattle.sheet.proofs.SlipLaws.{Small, slip-size, numbers-below}
-use Rattle.sheet.specs.Sheet.{Sheet}
+use Rattle.sheet.specs.Sheet.{Sheet, sheetOf}
 use Rattle.sheet.specs.Slip.{Slip, slipNumbers, slipBytes, marksBytes}
-use Rattle.slip_reader.proofs.FormLaws.{small-below}
 use Rattle.slip_reader.specs.Form.{slipFrom}
 use Rattle.pass_rules.proofs.SlipOfPass.{marks-are, slip-small, verdict-goals, reasons-count}
 use Rattle.pass_rules.proofs.VerdictLaws.{refused-goals, verdict-low}

@@ -15,7 +15,8 @@ use Rattle.pass_rules.proofs.AcceptedLaws.{accepted-got}
 use Rattle.pass_rules.proofs.Demand2.{Refusal, finished-is, verdict-in, prune-exact, refuse-exact, is-refused}
 use Rattle.pass_rules.proofs.VerdictLaws.{NoWalkOn}
 use Rattle.pass_rules.specs.Accepted.{accepted}
-use Rattle.pass_rules.specs.Pass.{finished, answerOf, passOn, passed, written, verdictIn, markIn, Refuses}
+use Rattle.sheet.specs.Answer.{finished, answerOf}
+use Rattle.pass_rules.specs.Pass.{passOn, passed, written, verdictIn, markIn, Refuses}
 use Rattle.pass_rules.specs.Verdict.{verdict, slipFor}
 use Rattle.walks.specs.Graph.{itemCount}
 

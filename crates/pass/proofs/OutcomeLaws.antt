@@ -13,7 +13,8 @@ use Rattle.sheet.specs.Lent.{workNumbers, zeroed, workAfter}
 use Rattle.work.proofs.LeftLaws.{left-finished, left-refused}
 use Rattle.work.specs.Left.{left}
 use Rattle.pass_rules.proofs.WithinLaws.{Within}
-use Rattle.pass_rules.specs.Pass.{Answer, finished, refused, Wrote, wrote, Outcome, outcome, lentEnough, written}
+use Rattle.sheet.specs.Answer.{Answer, finished, refused, Wrote, wrote}
+use Rattle.pass_rules.specs.Pass.{Outcome, outcome, lentEnough, written}
 
 -- a refusal gives length 0 and leaves the slip as found
 pub wrote-none : {a : Answer} {slip : List ℕ} {e : ℕ} → a ≡ refused e → record { number = e; length = 0; out = slip } ≡ wrote a slip

@@ -6,7 +6,8 @@ use Rattle.sheet.specs.Reader.{taken}
 use Rattle.sheet.specs.Sheet.{Sheet}
 use Rattle.varint.specs.Varint.{got, refuse, after}
 use Rattle.pass_rules.proofs.AcceptedLaws.{accepted-taken}
-use Rattle.pass_rules.specs.Pass.{finished, refused, answerOf, passOn}
+use Rattle.sheet.specs.Answer.{finished, refused, answerOf}
+use Rattle.pass_rules.specs.Pass.{passOn}
 use Rattle.pass_rules.specs.Verdict.{verdict, passSlip}
 
 pub bad-sheet : (sheet : List ℕ) (w : ℕ) → taken sheet ≡ refuse w → passOn sheet ≡ refused w

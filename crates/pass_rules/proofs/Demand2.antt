@@ -31,7 +31,8 @@ use Rattle.pass_rules.proofs.RouteLaws.{route-stands, route-left, left-
 use Rattle.pass_rules.proofs.SlipOfPass.{PassSlipIs, marks, blames, pass-slip-is, pass-finishes, pass-verdict-in, pass-mark-in}
 use Rattle.pass_rules.proofs.VerdictLaws.{NoWalkOn, no-walk, stands-all, all-stands, pruned-mark, other-mark, mark-forced, forced-mark, verdict-low, VerdictIs, verdict-is, one, two, three, stands}
 use Rattle.pass_rules.specs.Accepted.{accepted}
-use Rattle.pass_rules.specs.Pass.{finished, passOn, verdictIn, markIn, marksIn, Refuses}
+use Rattle.sheet.specs.Answer.{finished}
+use Rattle.pass_rules.specs.Pass.{passOn, verdictIn, markIn, marksIn, Refuses}
 use Rattle.pass_rules.specs.Route.{Route, demandedNodes, marked, Forced}
 use Rattle.pass_rules.specs.Verdict.{fitsSheet, verdict, newMark, slipFor, passSlip, Verdict, newMarks}
 

@@ -22,7 +22,8 @@ use Rattle.varint.specs.Varint.{got, after, writeNumber, writeNumbers, writeGro
 use Rattle.walks.specs.Graph.{itemCount}
 use Rattle.pass_rules.proofs.VerdictLaws.{stands, VerdictIs, verdict-is, one, two, three, new-mark-low, verdict-low}
 use Rattle.pass_rules.specs.Accepted.{accepted}
-use Rattle.pass_rules.specs.Pass.{finished, answerOf, passOn, verdictIn, markIn}
+use Rattle.sheet.specs.Answer.{finished, answerOf}
+use Rattle.pass_rules.specs.Pass.{passOn, verdictIn, markIn}
 use Rattle.pass_rules.specs.Verdict.{Verdict, verdict, newMark, newMarks, reasonsFor, slipFor, passSlip}
 
 -- reasons are items, ascending, and so at most as many as there are items

@@ -10,7 +10,8 @@ use Rattle.varint.specs.Varint.{Read, got, refuse, after}
 use Rattle.pass_rules.proofs.AcceptedLaws.{accepted-taken, accepted-got, accepted-good}
 use Rattle.pass_rules.proofs.SlipOfPass.{pass-slip-size}
 use Rattle.pass_rules.specs.Accepted.{accepted}
-use Rattle.pass_rules.specs.Pass.{Answer, finished, refused, answerOf, passOn}
+use Rattle.sheet.specs.Answer.{Answer, finished, refused, answerOf}
+use Rattle.pass_rules.specs.Pass.{passOn}
 use Rattle.pass_rules.specs.Verdict.{verdict, passSlip}
 
 -- a slip of at most 1,200 bytes, or one of the refusals 1 to 16

@@ -5,31 +5,12 @@ use mathlib.Core.List.{List, []}
 use lib.ListN.{length, getD, take, drop}
 use lib.Dec.{ltb}
 use Rattle.lists.specs.Lists.{pick, front}
-use Rattle.varint.specs.Varint.{Read, got, refuse, after}
+use Rattle.varint.specs.Varint.{got, after}
 use Rattle.sheet.specs.Slip.{Slip, readSlip}
 use Rattle.sheet.specs.Lent.{workNumbers, zeroed, workAfter}
+use Rattle.sheet.specs.Answer.{Answer, finished, refused, answerOf}
 use Rattle.pass_rules.specs.Accepted.{accepted}
 use Rattle.pass_rules.specs.Verdict.{verdict, passSlip}
-
--- pass and reason finish with the bytes of a slip, or refuse with a number
-pub data Answer : Type 0 where
-  finished : List ℕ → Answer
-  refused : ℕ → Answer
-
-unfoldable pub answerOf : Read (List ℕ) → Answer
-answerOf (got slip rest) = finished slip
-answerOf (refuse e) = refused e
-
--- What a call gives and leaves, without a word on the work: the refusal number, 0 where it finished, the slip's length, and what the slip holds.
-pub record Wrote : Type 0 where
-  pub number : ℕ
-  pub length : ℕ
-  pub out : List ℕ
-
--- a finished call leaves the slip in front; a refused one gives length 0 and leaves the slip as found
-unfoldable pub wrote : Answer → List ℕ → Wrote
-wrote (finished bytes) slip = record { number = 0; length = length bytes; out = front bytes slip }
-wrote (refused e) slip = record { number = e; length = 0; out = slip }
 
 -- What a call gives and leaves: the refusal number, 0 where it finished, the slip's length, and what work and slip hold.
 pub record Outcome : Type 0 where

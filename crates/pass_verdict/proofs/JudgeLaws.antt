@@ -14,10 +14,10 @@ use Rattle.item_fits.specs.Asked.{Sought}
 use Rattle.lists.proofs.AscendLaws.{ascends-distinct, keep-none, keep-first, span-member}
 use Rattle.lists.proofs.MemberLaws.{keep-member, member-head}
 use Rattle.sheet_required.proofs.HeldLaws.{items-are, goals-at}
-use Rattle.sheet_required.specs.Held.{sheetOf, Whole}
+use Rattle.sheet_required.specs.Held.{Whole}
 use Rattle.rows.specs.Net.{netOf}
 use Rattle.sheet.proofs.MarkLaws.{required-ascend, required-below, is-mandatory}
-use Rattle.sheet.specs.Sheet.{Sheet, isMandatory, allItems, required, markOf}
+use Rattle.sheet.specs.Sheet.{Sheet, isMandatory, allItems, required, markOf, sheetOf}
 use Rattle.pass_rules.specs.Verdict.{fitsSheet, unmet, verdictFrom, verdict}
 use Rattle.walks.specs.Flat.{graphOf}
 use Rattle.walks.specs.Graph.{itemCount}

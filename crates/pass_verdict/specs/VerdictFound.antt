@@ -6,7 +6,7 @@ use lib.ListN.{take}
 use Rattle.rows.specs.Net.{netOf}
 use Rattle.goal_table.specs.Table.{Rowed}
 use Rattle.sheet.specs.declared.Header.{Header}
-use Rattle.sheet_required.specs.Held.{sheetOf}
+use Rattle.sheet.specs.Sheet.{sheetOf}
 use Rattle.pass_rules.specs.Verdict.{verdict}
 use Rattle.pass_verdict.specs.declared.Verdict.{Verdict}
 

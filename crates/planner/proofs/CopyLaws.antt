@@ -15,7 +15,8 @@ use Rattle.reason_rules.specs.Reason.{reasonOn, reasoned}
 use Rattle.sheet.specs.Lent.{zeros, zeroed, workAfter}
 use Rattle.varint.specs.Varint.{Read, got, refuse}
 use Rattle.pass_rules.specs.Pass as pass
-use Rattle.pass_rules.specs.Pass.{Answer, finished, refused, passOn, passed}
+use Rattle.sheet.specs.Answer.{Answer, finished, refused}
+use Rattle.pass_rules.specs.Pass.{passOn, passed}
 use Rattle.check_rules.specs.Check as check
 use Rattle.check_rules.specs.Check.{checkOn, checked}
 use Rattle.planner.specs.Copied.{numbersOf, workBytesOf, copiedOut, checkCopiedOut}

@@ -8,7 +8,7 @@ use lib.ListN.{length}
 use borrow.Author.Tests.{lt-ltb, le-ltb}
 use Rattle.lists.specs.Lists.{front}
 use Rattle.pass_rules.proofs.WithinLaws.{Within}
-use Rattle.pass_rules.specs.Pass.{Answer, finished, refused, Wrote, wrote}
+use Rattle.sheet.specs.Answer.{Answer, finished, refused, Wrote, wrote}
 use Rattle.work.proofs.LeftLaws.{left-finished, left-refused}
 use Rattle.work.specs.Bytes.{zeroedBytes, bytesAfter}
 use Rattle.work.specs.Left.{left}

@@ -4,7 +4,8 @@ use mathlib.Core.List.{List}
 use lib.ListN.{length}
 use lib.Dec.{ltb}
 use Rattle.lists.specs.Lists.{pick, front}
-use Rattle.pass_rules.specs.Pass.{Answer, finished, refused, passOn}
+use Rattle.sheet.specs.Answer.{Answer, finished, refused}
+use Rattle.pass_rules.specs.Pass.{passOn}
 use Rattle.reason_rules.specs.Reason.{reasonOn}
 use Rattle.work.specs.Bytes.{workBytes, zeroedBytes, bytesAfter}
 

@@ -10,7 +10,8 @@ use Rattle.varint.specs.Varint.{Read, got, refuse, after}
 use Rattle.pass_rules.proofs.AcceptedLaws.{accepted-got}
 use Rattle.pass_rules.proofs.Demand2.{finished-is}
 use Rattle.pass_rules.specs.Accepted.{accepted}
-use Rattle.pass_rules.specs.Pass.{finished, answerOf, written}
+use Rattle.sheet.specs.Answer.{finished, answerOf}
+use Rattle.pass_rules.specs.Pass.{written}
 use Rattle.pass_rules.specs.Verdict.{slipFor}
 use Rattle.pass.proofs.OutcomeLaws.{call-writes}
 use Rattle.reason_rules.proofs.WithinLaws.{reason-within}

@@ -10,16 +10,16 @@ use borrow.Author.Tests.{eq-eqb, ne-eqb, lt-ltb, le-ltb}
 use Rattle.sheet.specs.declared.Header.{Header}
 use Rattle.varint.specs.Answer.{small}
 use Rattle.sheet_required.proofs.HeldLaws.{items-are, listed-front}
-use Rattle.sheet_required.specs.Held.{Whole, sheetOf}
+use Rattle.sheet_required.specs.Held.{Whole}
 use Rattle.lists.proofs.TestLaws.{and-true, not-true}
 use Rattle.lists.specs.Lists.{member, Put}
 use Rattle.pass.proofs.AnswerLaws.{slip-writes}
 use Rattle.sheet.proofs.MarkLaws.{is-open}
-use Rattle.sheet.specs.Sheet.{Sheet, markOf, isOpen}
+use Rattle.sheet.specs.Sheet.{Sheet, markOf, isOpen, sheetOf}
 use Rattle.sheet.specs.Slip.{slipBytes, slipNumbers}
 use Rattle.slip_reader.specs.Form.{slipFrom}
 use Rattle.pass_rules.proofs.SlipOfPass.{slip-small}
-use Rattle.pass_rules.specs.Pass.{finished, refused, answerOf}
+use Rattle.sheet.specs.Answer.{finished, refused, answerOf}
 use Rattle.pass_rules.specs.Verdict.{fitsSheet, verdict, isPruned, reasonsFor, slipFor}
 use Rattle.walks.specs.Graph.{itemCount}
 use Rattle.reason_rules.specs.Reason.{prunes, reasonIn}

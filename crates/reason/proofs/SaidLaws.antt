@@ -6,7 +6,7 @@ use Rattle.sheet.specs.Reader.{taken}
 use Rattle.sheet.specs.Sheet.{Sheet}
 use Rattle.varint.specs.Varint.{got, refuse, after}
 use Rattle.pass_rules.proofs.AcceptedLaws.{accepted-taken}
-use Rattle.pass_rules.specs.Pass.{refused, answerOf}
+use Rattle.sheet.specs.Answer.{refused, answerOf}
 use Rattle.reason_rules.specs.Reason.{reasonIn, reasonOn}
 
 pub bad-sheet : (sheet : List ℕ) (i w : ℕ) → taken sheet ≡ refuse w → reasonOn sheet i ≡ refused w

@@ -12,7 +12,7 @@ use Rattle.lists.proofs.TestLaws.{and-true}
 use Rattle.pass_rules.proofs.AcceptedLaws.{accepted-good}
 use Rattle.pass_rules.proofs.SlipOfPass.{slip-small}
 use Rattle.pass_rules.specs.Accepted.{accepted}
-use Rattle.pass_rules.specs.Pass.{finished, answerOf}
+use Rattle.sheet.specs.Answer.{finished, answerOf}
 use Rattle.pass_rules.specs.Verdict.{verdict, isPruned, slipFor}
 use Rattle.sheet.proofs.SlipLaws.{Small, slip-back, slip-size}
 use Rattle.sheet.specs.Sheet.{Sheet}

@@ -13,7 +13,7 @@ use Rattle.walks.specs.Graph.{itemCount}
 use Rattle.pass_rules.proofs.AcceptedLaws.{accepted-got}
 use Rattle.pass_rules.proofs.WithinLaws.{Within, accepted-refuses}
 use Rattle.pass_rules.specs.Accepted.{accepted}
-use Rattle.pass_rules.specs.Pass.{finished, answerOf}
+use Rattle.sheet.specs.Answer.{finished, answerOf}
 use Rattle.pass_rules.specs.Verdict.{slipFor}
 use Rattle.reason_rules.proofs.AnswerLaws.{reason-slip-size}
 use Rattle.reason_rules.specs.Reason.{prunes, reasonIn, reasonOn}

@@ -11,7 +11,7 @@ use Rattle.walks.specs.Graph.{Graph, tailOf, headOf, weightOf}
 use Rattle.sheet.specs.Sheet.{Sheet, isMandatory, isForbidden, required}
 use Rattle.sheet.specs.Slip.{Slip, readSlip}
 use Rattle.pass_rules.specs.Accepted.{accepted}
-use Rattle.pass_rules.specs.Pass.{finished}
+use Rattle.sheet.specs.Answer.{finished}
 use Rattle.reason_rules.specs.Reason.{reasonOn}
 
 -- The slip that reason writes for an item has these goals and reasons.

@@ -10,7 +10,8 @@ use Rattle.sheet.specs.Sheet.{Sheet}
 use Rattle.sheet.specs.Slip.{slipBytes}
 use Rattle.pass_rules.specs.Accepted.{accepted}
 use Rattle.pass_rules.specs.Verdict.{verdict, isPruned, slipFor}
-use Rattle.pass_rules.specs.Pass.{Answer, answerOf, Outcome, outcome, lentEnough}
+use Rattle.sheet.specs.Answer.{Answer, answerOf}
+use Rattle.pass_rules.specs.Pass.{Outcome, outcome, lentEnough}
 
 -- the pass on this sheet prunes the item
 unfoldable pub prunes : Sheet → ℕ → Bool

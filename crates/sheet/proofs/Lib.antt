@@ -3,3 +3,9 @@ pub mod MarkLaws
 pub mod SlipLaws
 pub mod ArcViewLaws
 pub mod RefusalLaws
+pub mod BackLaws
+pub mod AgainLaws
+pub mod FaultLaws
+pub mod DraftLaws
+pub mod WriterLaws
+pub mod SizeLaws

@@ -4,3 +4,6 @@ pub mod Reader
 pub mod ArcView
 pub mod Slip
 pub mod Lent
+pub mod Answer
+pub mod Draft
+pub mod Writer

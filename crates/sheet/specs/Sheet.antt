@@ -6,6 +6,8 @@ use lib.ListN.{getD, length}
 use lib.Dec.{eqb}
 use Rattle.lists.specs.Lists.{keep, span}
 use Rattle.walks.specs.Graph.{Graph, tailOf, headOf, arcItem, itemCount, closedIn}
+use Rattle.walks.specs.Flat.{graphOf}
+use Rattle.sheet.specs.declared.Header.{Header}
 
 pub record Sheet : Type 0 where
   pub graph : Graph
@@ -13,6 +15,16 @@ pub record Sheet : Type 0 where
   pub target : ℕ
   pub limit : ℕ
   pub marks : List ℕ
+
+-- its five numbers in front
+unfoldable pub headerOf : Sheet → Header
+headerOf S =
+    record { nodes = S .graph .nodes; arcs = length (S .graph .arcs); source = S .source; target = S .target; limit = S .limit }
+
+-- the sheet that the five numbers, the arcs' numbers and the marks make
+abbrev pub sheetOf : Header → List ℕ → List ℕ → Sheet
+sheetOf h arcs marks =
+    record { graph = graphOf (h .nodes) arcs; source = h .source; target = h .target; limit = h .limit; marks = marks }
 
 -- an item's mark: open 0, mandatory (must) 1, forbidden (shut) 2
 unfoldable pub markOf : Sheet → ℕ → ℕ

@@ -11,14 +11,14 @@ use Rattle.sheet_reader.specs.declared.SheetRead.{SheetRead}
 use Rattle.sheet_reader.specs.declared.SheetRead.the-variants.{Got, Refused}
 use Rattle.lists.specs.Lists.{front}
 use Rattle.sheet_reader.proofs.TakenLaws.{taken-begun}
-use Rattle.sheet_required.specs.Held.{sheetOf, Whole}
-use Rattle.sheet_reader.specs.Answer.{headerOf, answered, arcsBegun, marksBegun}
+use Rattle.sheet_required.specs.Held.{Whole}
+use Rattle.sheet_reader.specs.Answer.{answered, arcsBegun, marksBegun}
 use Rattle.rows.proofs.ArcLaws.{tail-at, head-at}
 use Rattle.rows.specs.Net.{netOf}
 use Rattle.sheet.specs.Good.{Good}
 use Rattle.sheet.proofs.SheetLaws.{taken-got, taken-good, good-tail, good-head}
 use Rattle.sheet.specs.Reader.{taken}
-use Rattle.sheet.specs.Sheet.{Sheet, required}
+use Rattle.sheet.specs.Sheet.{Sheet, required, sheetOf, headerOf}
 use Rattle.varint.specs.Varint.{Read, got, refuse}
 use Rattle.walks.proofs.FlatLaws.{arcs-flat, length-flat}
 use Rattle.walks.specs.Flat.{graphOf, flat}

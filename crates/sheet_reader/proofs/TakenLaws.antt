@@ -15,12 +15,11 @@ use Rattle.walks.proofs.FlatLaws.{arcs-flat, length-flat}
 use Rattle.sheet.specs.declared.Header.{Header}
 use Rattle.sheet_reader.specs.declared.SheetRead.{SheetRead}
 use Rattle.sheet_reader.specs.declared.SheetRead.the-variants.{Got, Refused}
-use Rattle.sheet.specs.Sheet.{Sheet, required}
+use Rattle.sheet.specs.Sheet.{Sheet, required, sheetOf, headerOf}
 use Rattle.sheet.specs.Reader.{readArc, readMark, readArcs, readMarks, complete, readSheet, taken, readHeader}
 use Rattle.numbers.specs.Begun.{ahead, begun}
 use Rattle.numbers.proofs.SeveralLaws.{several-read}
-use Rattle.sheet_reader.specs.Answer.{headerOf, answered, arcsBehind, marksBehind, arcsBegun, marksBegun}
-use Rattle.sheet_required.specs.Held.{sheetOf}
+use Rattle.sheet_reader.specs.Answer.{answered, arcsBehind, marksBehind, arcsBegun, marksBegun}
 
 module _ (h : Header) (bs : List ℕ) where
   pub arcs-refused :

@@ -1,10 +1,9 @@
 -- What the reader's answer stands for in document 01, and what a read leaves in the arrays that it is lent.
 use Prim.Native.Nat.{ℕ, _+_}
 use mathlib.Core.List.{List}
-use lib.ListN.{length}
 use Rattle.varint.specs.Varint.{Read, got, refuse, several}
 use Rattle.walks.specs.Graph.{Arc}
-use Rattle.sheet.specs.Sheet.{Sheet}
+use Rattle.sheet.specs.Sheet.{Sheet, headerOf}
 use Rattle.sheet.specs.Reader.{readArc, readMark, readHeader}
 use Rattle.sheet.specs.declared.Header.{Header}
 use Rattle.numbers.specs.Begun.{ahead, begun}
@@ -12,10 +11,6 @@ use Rattle.sheet_reader.specs.declared.SheetRead.{SheetRead}
 use Rattle.sheet_reader.specs.declared.SheetRead.the-variants.{Got, Refused}
 
 -- the whole sheet: its five numbers, or the refusal
-unfoldable pub headerOf : Sheet → Header
-headerOf S =
-    record { nodes = S .graph .nodes; arcs = length (S .graph .arcs); source = S .source; target = S .target; limit = S .limit }
-
 unfoldable pub answered : Read Sheet → SheetRead
 answered (got S rest) = Got (headerOf S)
 answered (refuse e) = Refused e

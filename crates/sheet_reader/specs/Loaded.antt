@@ -6,7 +6,8 @@ use lib.ListN.{take}
 use Rattle.varint.specs.Varint.{got, refuse}
 use Rattle.sheet.specs.declared.Header.{Header}
 use Rattle.sheet.specs.Reader.{taken}
-use Rattle.sheet_required.specs.Held.{sheetOf, Whole}
+use Rattle.sheet.specs.Sheet.{sheetOf}
+use Rattle.sheet_required.specs.Held.{Whole}
 use Rattle.sheet_reader.specs.declared.SheetRead.{SheetRead}
 use Rattle.sheet_reader.specs.declared.SheetRead.the-variants.{Got, Refused}
 

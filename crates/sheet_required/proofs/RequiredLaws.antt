@@ -16,8 +16,8 @@ use Rattle.walks.specs.Graph.{Arc, noArc, tailOf, headOf, arcItem}
 use Rattle.walks.specs.Flat.{arcsOf, graphOf}
 use Rattle.walks.proofs.FlatLaws.{arc-at, arcs-many}
 use Rattle.sheet.specs.declared.Header.{Header}
-use Rattle.sheet.specs.Sheet.{markOf, isMandatory, endsMandatory, allArcs, isRequired}
-use Rattle.sheet_required.specs.Held.{sheetOf, Held, Ends, RoomListed}
+use Rattle.sheet.specs.Sheet.{markOf, isMandatory, endsMandatory, allArcs, isRequired, sheetOf}
+use Rattle.sheet_required.specs.Held.{Held, Ends, RoomListed}
 
 -- a mark of 1 that is set at i, seen from p
 set-one : (xs : List ℕ) (i p : ℕ) → p < length xs → eqb (getD (set xs i 1) p 0) 1 ≡ (eqb i p || eqb (getD xs p 0) 1)

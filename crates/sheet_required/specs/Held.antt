@@ -5,16 +5,10 @@ use mathlib.Core.List.{List}
 use lib.ListN.{length, getD, take}
 use lib.Dec.{eqb}
 use Rattle.lists.specs.Lists.{front}
-use Rattle.walks.specs.Flat.{graphOf}
-use Rattle.sheet.specs.Sheet.{Sheet, required, endsMandatory, allArcs}
+use Rattle.sheet.specs.Sheet.{Sheet, sheetOf, required, endsMandatory, allArcs}
 use Rattle.sheet.specs.Good.{Good}
 use Rattle.rows.specs.Net.{netOf, Proper}
 use Rattle.sheet.specs.declared.Header.{Header}
-
--- the sheet that the five numbers, the arcs' numbers and the marks make
-abbrev pub sheetOf : Header → List ℕ → List ℕ → Sheet
-sheetOf h arcs marks =
-    record { graph = graphOf (h .nodes) arcs; source = h .source; target = h .target; limit = h .limit; marks = marks }
 
 -- as many numbers as the header says
 abbrev pub Held : Header → List ℕ → List ℕ → Type 0

@@ -9,12 +9,12 @@ use lib.ListN.{length, take, drop, length-drop, drop-of-length-le}
 use borrow.Author.Tests.{lt-ltb, le-ltb}
 use Rattle.lists.specs.Lists.{pick}
 use Rattle.varint.specs.Varint.{Read, got, refuse, after, lastGroup, above, readGroups, readNumber, several}
-use Rattle.sheet.specs.Sheet.{Sheet}
+use Rattle.sheet.specs.Sheet.{Sheet, headerOf}
 use Rattle.sheet.specs.Reader.{taken}
 use Rattle.sheet.specs.ArcView.{restOf, past, bytesOf, forArc, arcView, placeOf}
 use Rattle.sheet.specs.declared.Header.{Header}
 use Rattle.sheet_reader.specs.declared.SheetRead.the-variants.{Got, Refused}
-use Rattle.sheet_reader.specs.Answer.{headerOf, answered}
+use Rattle.sheet_reader.specs.Answer.{answered}
 
 -- what is left after several values
 abbrev restAll : {A : Type 0} → Read A → List ℕ

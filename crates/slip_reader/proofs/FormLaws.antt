@@ -3,14 +3,12 @@ use Prim.Native.Nat.{ℕ, _≤_, _<_}
 use mathlib.Core.Path.{_≡_, refl, ap, sym, _∙_}
 use mathlib.Core.List.{List, [], _∷_, _++_, append-assoc}
 use mathlib.Core.Bool.{true}
-use native.Mathlib.Omega.{arith}
 use lib.Dec.{ltb}
 use lib.ListN.{length, drop, drop-of-length-le}
 use lib.Seq.{drop-cons}
-use borrow.Author.Tests.{ltb-true, lt-ltb, le-leb, lt-leb}
+use borrow.Author.Tests.{ltb-true, le-leb, lt-leb}
 use Rattle.lists.specs.Lists.{every}
 use Rattle.lists.proofs.FrontLaws.{Room}
-use Rattle.lists.proofs.Pigeonhole.{Below}
 use Rattle.lists.proofs.TestLaws.{and-true, true-and}
 use Rattle.varint.specs.Varint.{Read, got, refuse, after, readNumber, number, judged, several, writeNumber, writeNumbers}
 use Rattle.varint.specs.Answer.{small}
@@ -96,9 +94,3 @@ module _ (bs : List ℕ) where
     pub first-read : 1 ≤ v → v ≤ 4 → listsOf v rest ≡ readSlip bs
     unfolding readSlip listsOf number judged after
     first-read m l = rw (← q) (simp (le-leb 1 v m, le-leb v 4 l))
-
--- numbers below a bound that is small enough are small
-pub small-below : (n : ℕ) (xs : List ℕ) → n ≤ 268435456 → Below n xs → small xs ≡ true
-unfolding small every
-small-below n [] l b = refl
-small-below n (x ∷ xs) l b = true-and (lt-ltb x 268435456 (omega (arith, b .0))) (small-below n xs l (b .1))

@@ -5,7 +5,8 @@ use mathlib.Core.List.{List, [], _∷_, _++_}
 use Rattle.reason_list.specs.Reasons.{greedy, reasons}
 use Rattle.lists.specs.Lists.{member, every, keep, add, span}
 use Rattle.pass_rules.specs.Accepted.{overlong, shortEnough, accepted}
-use Rattle.pass_rules.specs.Pass.{answerOf, passOn}
+use Rattle.sheet.specs.Answer.{answerOf}
+use Rattle.pass_rules.specs.Pass.{passOn}
 use Rattle.pass_rules.specs.Verdict.{fitsSheet, unmet, verdictFrom, verdict, isPruned, isForced, newMark, newMarks, reasonsFor, slipFor, passSlip}
 use Rattle.sheet.specs.Reader.{arcMinutes, arcHead, readArc, readMark, readMarks, readArcs, headerLimit, headerTarget, headerSource, headerArcs, readHeader, readSheet, complete, taken}
 use Rattle.sheet.specs.Sheet.{markOf, isOpen, isMandatory, isForbidden, allItems, allNodes, allArcs, endsMandatory, isRequired, required}

@@ -13,7 +13,8 @@ use Rattle.varint.specs.Varint.{got}
 use Rattle.walks.specs.Graph.{itemCount}
 use Rattle.sheet.specs.Sheet.{Sheet, markOf, isOpen, allItems}
 use Rattle.pass_rules.specs.Accepted.{accepted}
-use Rattle.pass_rules.specs.Pass.{finished, passOn, verdictIn, markIn}
+use Rattle.sheet.specs.Answer.{finished}
+use Rattle.pass_rules.specs.Pass.{passOn, verdictIn, markIn}
 use Rattle.pass_rules.specs.Verdict.{fitsSheet, isPruned, isForced, newMark}
 use Rattle.pass_rules.proofs.AcceptedLaws.{accepted-good}
 use Rattle.pass_rules.proofs.Demand2.{marks-exact}

@@ -10,7 +10,8 @@ use Rattle.sheet.specs.Sheet.{Sheet}
 use Rattle.sheet.specs.Reader.{taken}
 use Rattle.sheet.specs.Slip.{Slip, readSlip}
 use Rattle.sheet.specs.Lent.{workNumbers}
-use Rattle.pass_rules.specs.Pass.{Answer, finished, refused, passOn, verdictIn, markIn}
+use Rattle.sheet.specs.Answer.{Answer, finished, refused}
+use Rattle.pass_rules.specs.Pass.{passOn, verdictIn, markIn}
 use Rattle.text_lines.specs.Lines.{line}
 
 -- `verdict`, `struck`, `needs`, `because`, `refused`, in ASCII

@@ -14,7 +14,8 @@ use Rattle.sheet.specs.Lent.{workNumbers}
 use Rattle.sheet.specs.Reader.{taken}
 use Rattle.sheet.specs.Sheet.{Sheet}
 use Rattle.sheet.proofs.RefusalLaws.{Among, taken-refuses}
-use Rattle.pass_rules.specs.Pass.{Answer, finished, refused, answerOf, Outcome, outcome, lentEnough, passOn, passed}
+use Rattle.sheet.specs.Answer.{Answer, finished, refused, answerOf}
+use Rattle.pass_rules.specs.Pass.{Outcome, outcome, lentEnough, passOn, passed}
 use Rattle.pass_rules.specs.Verdict.{verdict, passSlip}
 use Rattle.pass_rules.proofs.AcceptedLaws.{accepted-taken}
 use Rattle.text_lines.specs.Lines.{line}

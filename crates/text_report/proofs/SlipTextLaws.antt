@@ -12,6 +12,7 @@ use Rattle.lists.specs.Lists.{span}
 use Rattle.lists.proofs.AscendLaws.{keep-ascends, ascends-distinct, span-member}
 use Rattle.lists.proofs.MemberLaws.{keep-member}
 use Rattle.lists.proofs.Pigeonhole.{Below, below-all, pigeonhole}
+use Rattle.varint.proofs.WriteLaws.{small-below}
 use Rattle.varint.specs.Varint.{Read, got, refuse, after}
 use Rattle.varint.specs.Answer.{small}
 use Rattle.walks.specs.Graph.{itemCount}
@@ -24,8 +25,8 @@ use Rattle.sheet.proofs.SlipLaws.{Small, slip-back}
 use Rattle.slip_reader.specs.declared.SlipForm.{SlipForm}
 use Rattle.slip_reader.specs.declared.SlipRead.the-variants.{Got as SlipGot, Refused as SlipRefused}
 use Rattle.slip_reader.specs.Form.{slipFrom, valuesAt, slipOf, SlipCounts}
-use Rattle.slip_reader.proofs.FormLaws.{small-below}
-use Rattle.pass_rules.specs.Pass.{finished, answerOf, passOn, verdictIn, markIn}
+use Rattle.sheet.specs.Answer.{finished, answerOf}
+use Rattle.pass_rules.specs.Pass.{passOn, verdictIn, markIn}
 use Rattle.pass_rules.specs.Verdict.{verdict, slipFor, passSlip}
 use Rattle.pass_rules.proofs.AcceptedLaws.{accepted-taken}
 use Rattle.pass_rules.proofs.SlipOfPass.{PassSlipIs, marks, blames, pass-slip-is, slip-first, new-marks-size}

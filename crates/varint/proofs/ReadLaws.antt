@@ -53,7 +53,7 @@ unfolding lastGroup
 last-kept left zero bs f = simp (le-ltb _ _ (f refl))
 last-kept left (suc b) bs f = let z : suc b ≡ 0 → ⊥ = λ e. omega (arith, e) in simp (ne-eqb (suc b) 0 z)
 
-last-needless : (left b : ℕ) (bs : List ℕ) → b ≡ 0 → left < 3 → lastGroup left b bs ≡ refuse 4
+pub last-needless : (left b : ℕ) (bs : List ℕ) → b ≡ 0 → left < 3 → lastGroup left b bs ≡ refuse 4
 unfolding lastGroup
 last-needless left b bs z l = simp (z, lt-ltb _ _ l)
 
@@ -62,7 +62,7 @@ abbrev pub weights : ℕ → ℕ
 weights zero = 1
 weights (suc n) = 128 * weights n
 
-weights-some : (n : ℕ) → 0 < weights n
+pub weights-some : (n : ℕ) → 0 < weights n
 weights-some zero = omega arith
 weights-some (suc n) = let h : 0 < weights n = weights-some n in omega arith
 

@@ -37,7 +37,7 @@ pub record Front {A : Type 0} (f : List ℕ → Read A) (bs : List ℕ) (x : A) 
   pub parts : bs ≡ bytes ++ rest
   pub again : (t : List ℕ) → f (bytes ++ t) ≡ got x t
 
-last-got : (left b : ℕ) (bs : List ℕ) (x : ℕ) (rest : List ℕ) → lastGroup left b bs ≡ got x rest
+pub last-got : (left b : ℕ) (bs : List ℕ) (x : ℕ) (rest : List ℕ) → lastGroup left b bs ≡ got x rest
     → (x ≡ b) × (rest ≡ bs) × ((t : List ℕ) → lastGroup left b t ≡ got x t)
 unfolding lastGroup
 last-got left b bs x rest e = go (eqb b 0 && ltb left 3) e

@@ -5,18 +5,19 @@ use mathlib.Core.List.{List, [], _∷_, _++_}
 use mathlib.Core.Bool.{Bool, true, false}
 use native.Mathlib.Omega.{arith}
 use lib.Dec.{ltb}
-use borrow.Author.Tests.{lt-ltb, le-ltb, ltb-true}
+use borrow.Author.Tests.{lt-ltb, le-ltb, ltb-true, ltb-false}
 use lib.ListN.{length, getD, set, length-append}
 use lib.Seq.{append-snoc}
 use Rattle.lists.specs.Lists.{pick, front, every}
-use Rattle.lists.proofs.TestLaws.{and-true}
+use Rattle.lists.proofs.Pigeonhole.{Below}
+use Rattle.lists.proofs.TestLaws.{and-true, true-and}
 use Rattle.lists.proofs.FrontLaws.{length-front, push-at}
 use Rattle.lists.proofs.RowLaws.{Rows}
 use Rattle.varint.proofs.ReadLaws.{weights}
 use Rattle.varint.specs.Varint.{writeGroups, writeNumber, writeNumbers}
 use Rattle.varint.specs.Answer.{small}
 
-groups-last : (k x : ℕ) → x ≤ 127 → writeGroups k x ≡ x ∷ []
+pub groups-last : (k x : ℕ) → x ≤ 127 → writeGroups k x ≡ x ∷ []
 unfolding writeGroups
 groups-last zero x h = refl
 groups-last (suc k) x h = let l : x < 128 = omega arith in simp (lt-ltb _ _ l)
@@ -85,6 +86,33 @@ unfolding small every
 small-at [] i e h = absurd (omega arith)
 small-at (x ∷ xs) zero e h = ltb-true x 268435456 (and-true (ltb x 268435456) _ e .0)
 small-at (x ∷ xs) (suc i) e h = small-at xs i (and-true (ltb x 268435456) _ e .1) (omega arith)
+
+-- numbers below a bound that is small enough are small, and small ones are below 2 to the 28
+pub small-below : (n : ℕ) (xs : List ℕ) → n ≤ 268435456 → Below n xs → small xs ≡ true
+unfolding small every
+small-below n [] l b = refl
+small-below n (x ∷ xs) l b = true-and (lt-ltb x 268435456 (omega (arith, b .0))) (small-below n xs l (b .1))
+
+pub below-small : (xs : List ℕ) → small xs ≡ true → Below 268435456 xs
+unfolding small every
+below-small [] e = tt
+below-small (x ∷ xs) e = let s = and-true (ltb x 268435456) (small xs) e in (ltb-true x 268435456 (s .0), below-small xs (s .1))
+
+-- a number of so many groups takes at most so many bytes
+groups-short : (k j x : ℕ) → x < weights (suc j) → length (writeGroups k x) ≤ suc j
+unfolding writeGroups
+groups-short zero j x h = omega arith
+groups-short (suc k) j x h = go (ltb x 128) refl j h (groups-short k)
+  where
+    go : (t : Bool) → ltb x 128 ≡ t → (j : ℕ) → x < weights (suc j) → ((j y : ℕ) → y < weights (suc j) → length (writeGroups k y) ≤ suc j)
+        → length (pick t (x ∷ []) ((128 + x % 128) ∷ writeGroups k (x / 128))) ≤ suc j
+    go true q j l ih = omega arith
+    go false q zero l ih = absurd (omega (arith, ltb-false x 128 q))
+    go false q (suc j) l ih = omega (arith, ih j (x / 128) (omega arith))
+
+pub number-short : (j x : ℕ) → x < weights (suc j) → length (writeNumber x) ≤ suc j
+unfolding writeNumber
+number-short j x h = groups-short 3 j x h
 
 -- numbers in a row are written number by number
 pub numbers-rows : Rows writeNumber writeNumbers

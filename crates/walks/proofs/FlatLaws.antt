@@ -1,5 +1,5 @@
 -- Arcs in one list of numbers and back. Assumes nothing.
-use Prim.Native.Nat.{ℕ, zero, suc, _+_, _*_, _/_, _<_}
+use Prim.Native.Nat.{ℕ, zero, suc, _+_, _-_, _*_, _/_, _<_}
 use mathlib.Core.Path.{_≡_, refl, ap}
 use mathlib.Core.List.{List, [], _∷_, _++_}
 use native.Mathlib.Omega.{arith}
@@ -11,6 +11,13 @@ pub arcs-flat : (xs : List Arc) → arcsOf (flat xs) ≡ xs
 unfolding arcsOf flat
 arcs-flat [] = refl
 arcs-flat (x ∷ xs) = ap (λ (ys : List Arc). x ∷ ys) (arcs-flat xs)
+
+pub flat-arcs : (xs : List ℕ) (m : ℕ) → length xs ≡ 3 * m → flat (arcsOf xs) ≡ xs
+unfolding arcsOf flat
+flat-arcs [] m e = refl
+flat-arcs (t ∷ []) m e = absurd (omega arith)
+flat-arcs (t ∷ h ∷ []) m e = absurd (omega arith)
+flat-arcs (t ∷ h ∷ w ∷ xs) m e = ap (λ (ys : List ℕ). t ∷ h ∷ w ∷ ys) (flat-arcs xs (m - 1) (omega arith))
 
 pub length-flat : (xs : List Arc) → length (flat xs) ≡ 3 * length xs
 unfolding flat

@@ -6,8 +6,7 @@ use native.Mathlib.Omega.{arith}
 use lib.ListN.{length, take}
 use borrow.Author.Needs.{needs}
 use Rattle.lists.specs.Lists.{member, every}
-use Rattle.sheet.specs.Sheet.{required}
-use Rattle.sheet_required.specs.Held.{sheetOf}
+use Rattle.sheet.specs.Sheet.{required, sheetOf}
 use Rattle.sheet_required.proofs.HeldLaws.{room-front}
 use Rattle.check_claim.proofs.all_required.Statement.{statement}
 use Rattle.check_claim.proofs.all_required.Tie as tie

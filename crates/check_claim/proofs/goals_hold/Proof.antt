@@ -1,7 +1,7 @@
 -- `check_claim::goals_hold` meets its contract, by the first number. Assumes nothing.
 use mathlib.Core.Path.{_∙_}
 use borrow.Author.Tests.{eq-eqb, ne-eqb}
-use Rattle.sheet_required.specs.Held.{sheetOf}
+use Rattle.sheet.specs.Sheet.{sheetOf}
 use Rattle.check_claim.proofs.GoalLaws.{goals-two, goals-three, goals-four}
 use borrow.Author.Needs.{needs}
 use Rattle.check_claim.proofs.goals_hold.Statement.{statement}

@@ -5,7 +5,7 @@ use mathlib.Core.List.{[]}
 use lib.ListN.{length, take}
 use borrow.Author.Needs.{needs}
 use Rattle.lists.proofs.TestedLaws.{passed, failed}
-use Rattle.sheet_required.specs.Held.{sheetOf}
+use Rattle.sheet.specs.Sheet.{sheetOf}
 use Rattle.sheet_required.proofs.HeldLaws.{listed-front, items-are}
 use Rattle.slip_reader.specs.Form.{slipFrom, valuesAt}
 use Rattle.check_answer.specs.declared.CheckAnswer.{CheckAnswer}

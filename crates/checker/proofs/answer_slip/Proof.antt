@@ -4,7 +4,7 @@ use mathlib.Core.Path.{sym, subst, _∙_}
 use borrow.Author.Needs.{needs}
 use borrow.Author.Tests.{ltb-false}
 use Rattle.lists.proofs.TestLaws.{or-false}
-use Rattle.sheet_required.specs.Held.{sheetOf}
+use Rattle.sheet.specs.Sheet.{sheetOf}
 use Rattle.sheet_required.proofs.HeldLaws.{items-are}
 use Rattle.slip_reader.specs.declared.SlipRead.{SlipRead}
 use Rattle.slip_reader.specs.declared.SlipRead.the-variants.{Got}

@@ -1,5 +1,5 @@
 -- `pass_marks::forced_nodes` meets its contract. Assumes nothing.
-use Rattle.sheet_required.specs.Held.{sheetOf}
+use Rattle.sheet.specs.Sheet.{sheetOf}
 use Rattle.pass_marks.proofs.MarkingLaws.{forced-are}
 use borrow.Author.Needs.{needs}
 use Rattle.pass_marks.proofs.forced_nodes.Statement.{statement}

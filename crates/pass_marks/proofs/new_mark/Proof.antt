@@ -2,8 +2,7 @@
 use mathlib.Core.Path.{refl, sym, _∙_}
 use mathlib.Core.Bool.{true, false}
 use borrow.Author.Tests.{eq-eqb, ne-eqb, not-true, not-false}
-use Rattle.sheet.specs.Sheet.{markOf}
-use Rattle.sheet_required.specs.Held.{sheetOf}
+use Rattle.sheet.specs.Sheet.{markOf, sheetOf}
 use Rattle.pass_marks.proofs.MarkingLaws.{mark-kept, mark-pruned, mark-open, arc-free}
 use borrow.Author.Needs.{needs}
 use Rattle.pass_marks.proofs.new_mark.Statement.{statement}

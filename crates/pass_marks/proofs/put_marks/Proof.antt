@@ -2,7 +2,7 @@
 use Prim.Native.Nat.{_+_, _-_}
 use mathlib.Core.Path.{refl, sym}
 use native.Mathlib.Omega.{arith}
-use Rattle.sheet_required.specs.Held.{sheetOf}
+use Rattle.sheet.specs.Sheet.{sheetOf}
 use Rattle.pass_marks.proofs.MarkingLaws.{Marking, marking-long, marking-more, marking-done}
 use Rattle.pass_marks.proofs.put_marks.Statement.{statement}
 use Rattle.pass_marks.proofs.put_marks.Tie as tie

@@ -6,7 +6,7 @@ use lib.ListN.{length, set, length-set}
 use borrow.Rule.Slice.PartMut.{same-len-mid}
 use Rattle.pass_rules.specs.Verdict.{newMarks}
 use Rattle.pass_rules.proofs.SlipOfPass.{new-marks-size}
-use Rattle.sheet_required.specs.Held.{sheetOf}
+use Rattle.sheet.specs.Sheet.{sheetOf}
 use Rattle.sheet_required.proofs.HeldLaws.{items-are}
 use Rattle.pass_marks.proofs.SlipLaws.{one-in, behind-one, zero-front}
 use borrow.Author.Needs.{needs}

@@ -5,9 +5,8 @@ use mathlib.Core.Bool.{false, not, _&&_}
 use mathlib.Core.List.{[], _∷_}
 use native.Mathlib.Omega.{arith}
 use borrow.Author.Count.{below-more}
-use Rattle.sheet.specs.Sheet.{isMandatory}
+use Rattle.sheet.specs.Sheet.{isMandatory, sheetOf}
 use Rattle.pass_rules.specs.Verdict.{fitsSheet}
-use Rattle.sheet_required.specs.Held.{sheetOf}
 use Rattle.pass_verdict.proofs.JudgeLaws.{first-is, none-is}
 use Rattle.pass_verdict.proofs.first_unmet.Statement.{statement}
 use Rattle.pass_verdict.proofs.first_unmet.Tie as tie

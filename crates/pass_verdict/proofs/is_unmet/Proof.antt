@@ -1,6 +1,5 @@
 -- `pass_verdict::is_unmet` meets its contract. Assumes nothing.
-use Rattle.sheet.specs.Sheet.{markOf}
-use Rattle.sheet_required.specs.Held.{sheetOf}
+use Rattle.sheet.specs.Sheet.{markOf, sheetOf}
 use Rattle.pass_verdict.proofs.JudgeLaws.{unmet-true, unmet-false}
 use borrow.Author.Needs.{needs}
 use Rattle.pass_verdict.proofs.is_unmet.Statement.{statement}

@@ -4,9 +4,8 @@ use mathlib.Core.Path.{_≡_, sym, ap, _∙_}
 use native.Mathlib.Omega.{arith}
 use lib.ListN.{length, take}
 use borrow.Author.Needs.{needs}
-use Rattle.sheet.specs.Sheet.{isForbidden, required}
+use Rattle.sheet.specs.Sheet.{isForbidden, required, sheetOf}
 use Rattle.pass_rules.specs.Verdict.{fitsSheet}
-use Rattle.sheet_required.specs.Held.{sheetOf}
 use Rattle.sheet_required.proofs.HeldLaws.{room-front}
 use Rattle.pass_verdict.proofs.JudgeLaws.{required-sought, nothing-required, judged-zero, judged-three}
 use Rattle.pass_verdict.proofs.judge_together.Statement.{statement}

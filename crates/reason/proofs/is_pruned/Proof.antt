@@ -1,7 +1,6 @@
 -- `reason::is_pruned` meets its contract. Assumes nothing.
 use mathlib.Core.Path.{sym, _∙_}
-use Rattle.sheet.specs.Sheet.{markOf}
-use Rattle.sheet_required.specs.Held.{sheetOf}
+use Rattle.sheet.specs.Sheet.{markOf, sheetOf}
 use Rattle.reason.proofs.ItemLaws.{not-standing, not-open, by-walks}
 use borrow.Author.Needs.{needs}
 use Rattle.reason.proofs.is_pruned.Statement.{statement}

@@ -6,7 +6,7 @@ use lib.ListN.{take}
 use borrow.Author.Needs.{needs}
 use Rattle.sheet_reader.specs.Loaded.{Loaded}
 use Rattle.pass.proofs.OutcomeLaws.{wrote-none}
-use Rattle.pass_rules.specs.Pass.{Answer, wrote}
+use Rattle.sheet.specs.Answer.{Answer, wrote}
 use Rattle.reason.proofs.SaidLaws.{bad-sheet, on-sheet}
 use Rattle.reason.proofs.reason_sheet.Statement.{statement}
 use Rattle.reason.proofs.reason_sheet.Tie as tie

@@ -4,8 +4,7 @@ use Prim.Native.Nat.{_-_}
 use mathlib.Core.Path.{sym, _∙_}
 use mathlib.Core.Logic.{⊎-elim}
 use native.Mathlib.Omega.{arith}
-use Rattle.sheet.specs.Sheet.{isRequired, required, allNodes}
-use Rattle.sheet_required.specs.Held.{sheetOf}
+use Rattle.sheet.specs.Sheet.{isRequired, required, allNodes, sheetOf}
 use Rattle.sheet_required.proofs.RequiredLaws.{Listing, listing, listed-size, list-more, list-pass, listed, required-by}
 use Rattle.sheet_required.proofs.required_nodes.Statement.{statement}
 use Rattle.sheet_required.proofs.required_nodes.Tie as tie

@@ -1,0 +1,129 @@
+-- A draft without a fault: its lists have the lengths that its header says, and each of its numbers can be written. And no fault is over 13. Assumes
+-- nothing.
+use Prim.Native.Nat.{ℕ, zero, suc, _+_, _-_, _*_, _≤_, _<_}
+use mathlib.Core.Path.{_≡_, refl}
+use mathlib.Core.Bool.{Bool, true, false}
+use mathlib.Core.List.{List, [], _∷_}
+use native.Mathlib.Omega.{arith}
+use lib.ListN.{length}
+use lib.Dec.{leb}
+use borrow.Author.Tests.{eqb-true, leb-true, ltb-true}
+use Rattle.lists.proofs.Pigeonhole.{Below, below-append}
+use Rattle.lists.proofs.TestLaws.{and-true}
+use Rattle.varint.proofs.WriteLaws.{small-below}
+use Rattle.varint.specs.Answer.{small}
+use Rattle.sheet.specs.declared.Header.{Header}
+use Rattle.sheet.specs.Draft.{headerNumbers, Draft, draftNumbers}
+use Rattle.sheet.specs.Writer.{fault, firstOf, headerFault, sizeFault, arcFault, arcsFault, marksFault, requiredFault, draftFault}
+
+-- the lists have the lengths that the header says
+abbrev pub Sized : Draft → Type 0
+Sized d = (length (d .arcs) ≡ 3 * d .header .arcs) × (length (d .marks) ≡ d .header .nodes + d .header .arcs)
+
+pub first-none : (a b : ℕ) → firstOf a b ≡ 0 → (a ≡ 0) × (b ≡ 0)
+unfolding firstOf
+first-none zero b e = (refl, e)
+first-none (suc a) b e = absurd (omega arith)
+
+pub fault-none : (e : ℕ) (ok : Bool) → fault (suc e) ok ≡ 0 → ok ≡ true
+unfolding fault
+fault-none e true q = refl
+fault-none e false q = absurd (omega (arith, q))
+
+header-small : (h : Header) → headerFault h ≡ 0 → (h .nodes ≤ 64) × Below 268435456 (headerNumbers h)
+unfolding headerFault headerNumbers
+header-small h e =
+    let a = first-none _ _ e in
+    let b = first-none _ _ (a .1) in
+    let c = first-none _ _ (b .1) in
+    let d = first-none _ _ (c .1) in
+    let n : h .nodes ≤ 64 = leb-true (h .nodes) 64 (and-true (leb 2 (h .nodes)) _ (fault-none 4 _ (a .0)) .1) in
+    let m : h .arcs ≤ 512 = leb-true (h .arcs) 512 (fault-none 5 _ (b .0)) in
+    let s : h .source < h .nodes = ltb-true (h .source) (h .nodes) (fault-none 6 _ (c .0)) in
+    let t : h .target < h .nodes = ltb-true (h .target) (h .nodes) (and-true _ _ (fault-none 6 _ (d .0)) .0) in
+    let k : h .limit ≤ 1000000 = leb-true (h .limit) 1000000 (fault-none 7 _ (d .1)) in
+    (n, (omega arith, (omega arith, (omega arith, (omega arith, (omega arith, tt))))))
+
+arcs-small : (n : ℕ) → n ≤ 64 → (xs : List ℕ) (m : ℕ) → length xs ≡ 3 * m → arcsFault n xs ≡ 0 → Below 268435456 xs
+unfolding arcsFault arcFault
+arcs-small n l [] m q e = tt
+arcs-small n l (t ∷ []) m q e = absurd (omega arith)
+arcs-small n l (t ∷ h ∷ []) m q e = absurd (omega arith)
+arcs-small n l (t ∷ h ∷ w ∷ xs) m q e =
+    let a = first-none _ _ e in
+    let b = first-none _ _ (a .0) in
+    let c = first-none _ _ (b .1) in
+    let u : t < n = ltb-true t n (fault-none 8 _ (b .0)) in
+    let v : h < n = ltb-true h n (and-true _ _ (fault-none 8 _ (c .0)) .0) in
+    let k : w ≤ 65535 = leb-true w 65535 (fault-none 9 _ (c .1)) in
+    (omega arith, (omega arith, (omega arith, arcs-small n l xs (m - 1) (omega arith) (a .1))))
+
+marks-small : (xs : List ℕ) → marksFault xs ≡ 0 → Below 268435456 xs
+unfolding marksFault
+marks-small [] e = tt
+marks-small (x ∷ xs) e =
+    let a = first-none _ _ e in
+    let l : x ≤ 2 = leb-true x 2 (fault-none 10 _ (a .0)) in
+    (omega arith, marks-small xs (a .1))
+
+-- a draft without a fault
+pub record Faultless (d : Draft) : Type 0 where
+  pub sized : Sized d
+  pub below : Below 268435456 (draftNumbers d)
+
+pub faultless : (d : Draft) → draftFault d ≡ 0 → Faultless d
+unfolding draftFault sizeFault draftNumbers
+faultless d e =
+    let h = first-none _ _ e in
+    let s = first-none _ _ (h .1) in
+    let a = first-none _ _ (s .1) in
+    let m = first-none _ _ (a .1) in
+    let z = and-true _ _ (fault-none 2 _ (s .0)) in
+    let c = eqb-true _ _ (z .0) in
+    let H = header-small (d .header) (h .0) in
+    record {
+      sized = (c, eqb-true _ _ (z .1));
+      below =
+          below-append 268435456 (headerNumbers (d .header)) _ (H .1)
+          (below-append 268435456 (d .arcs) (d .marks) (arcs-small (d .header .nodes) (H .0) (d .arcs) (d .header .arcs) c (a .0)) (marks-small (d .marks) (m .0)));
+    }
+
+-- what is written always has a written form
+pub faultless-small : (d : Draft) → draftFault d ≡ 0 → small (draftNumbers d) ≡ true
+faultless-small d e = small-below 268435456 (draftNumbers d) (omega arith) (faultless d e .below)
+
+-- no fault is over 13
+fault-low : (e : ℕ) (ok : Bool) → e ≤ 13 → fault e ok ≤ 13
+unfolding fault
+fault-low e true h = omega arith
+fault-low e false h = h
+
+first-low : (a b : ℕ) → a ≤ 13 → b ≤ 13 → firstOf a b ≤ 13
+unfolding firstOf
+first-low zero b h l = l
+first-low (suc a) b h l = h
+
+arcs-low : (n : ℕ) (xs : List ℕ) → arcsFault n xs ≤ 13
+unfolding arcsFault arcFault
+arcs-low n [] = omega arith
+arcs-low n (t ∷ []) = omega arith
+arcs-low n (t ∷ h ∷ []) = omega arith
+arcs-low n (t ∷ h ∷ w ∷ xs) =
+    first-low _ _ (first-low _ _ (fault-low 9 _ (omega arith)) (first-low _ _ (fault-low 9 _ (omega arith)) (fault-low 10 _ (omega arith)))) (arcs-low n xs)
+
+marks-low : (xs : List ℕ) → marksFault xs ≤ 13
+unfolding marksFault
+marks-low [] = omega arith
+marks-low (x ∷ xs) = first-low _ _ (fault-low 11 _ (omega arith)) (marks-low xs)
+
+header-low : (h : Header) → headerFault h ≤ 13
+unfolding headerFault
+header-low h =
+    first-low _ _ (fault-low 5 _ (omega arith)) (first-low _ _ (fault-low 6 _ (omega arith))
+    (first-low _ _ (fault-low 7 _ (omega arith)) (first-low _ _ (fault-low 7 _ (omega arith)) (fault-low 8 _ (omega arith)))))
+
+pub draft-low : (d : Draft) → draftFault d ≤ 13
+unfolding draftFault sizeFault requiredFault
+draft-low d =
+    first-low _ _ (header-low (d .header)) (first-low _ _ (fault-low 3 _ (omega arith))
+    (first-low _ _ (arcs-low (d .header .nodes) (d .arcs)) (first-low _ _ (marks-low (d .marks)) (fault-low 13 _ (omega arith)))))
