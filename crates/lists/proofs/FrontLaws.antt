@@ -1,12 +1,18 @@
--- Laws of a list that is filled from its front. Assumes nothing.
-use Prim.Native.Nat.{ℕ, suc, _+_, _-_, _≤_, _<_}
+-- Laws of a list that is filled from its front, and of a list of zeros. Assumes nothing.
+use Prim.Native.Nat.{ℕ, zero, suc, _+_, _-_, _≤_, _<_}
 use mathlib.Core.Path.{_≡_, refl, ap, sym, _∙_}
 use mathlib.Core.List.{List, [], _∷_, _++_, append-assoc, append-nil}
 use native.Mathlib.Omega.{arith}
 use native.Mathlib.Numerals.{add-one}
-use lib.ListN.{length, take, drop, set, drop-of-length-le, length-append, length-take, length-drop, length-set}
+use lib.ListN.{length, replicate, getD, take, drop, set, drop-of-length-le, length-append, length-take, length-drop, length-set}
 use lib.Seq.{drop-append-add, drop-cons, set-append-seam, append-snoc, take-all, take-at, drop-at, drop-drop}
 use Rattle.lists.specs.Lists.{front, Put}
+
+-- a number of a list of zeros, or behind it
+pub zeros-at : (n k : ℕ) → getD {A = ℕ} (replicate n 0) k 0 ≡ 0
+zeros-at zero k = refl
+zeros-at (suc n) zero = refl
+zeros-at (suc n) (suc k) = zeros-at n k
 
 pub length-front : (xs d : List ℕ) → length xs ≤ length d → length (front xs d) ≡ length d
 length-front xs d h = simp (length-append, length-drop) (omega arith)

@@ -7,7 +7,7 @@ use native.Mathlib.Omega.{arith}
 use lib.ListN.{length, getD, take, drop, set, length-set, length-drop}
 use lib.Seq.{getD-take, getD-drop, length-take-le, take-take, take-at, take-set-le, drop-set-lt}
 use Rattle.walks.specs.Graph.{closedIn}
-use Rattle.rows.specs.Net.{Net, netOf, closed, headAt, count, arcCount, tailIn, headIn, weightIn, Proper, Joins, Packed, arcSet}
+use Rattle.rows.specs.Net.{Net, netOf, closed, headAt, count, arcCount, tailIn, headIn, weightIn, Proper, Joins, arcSet}
 use Rattle.rows.proofs.ArcLaws.{set-before, set-tail}
 use Rattle.lists.specs.Lists.{front, Put}
 use Rattle.lists.proofs.FrontLaws.{front-rest, drop-further}

@@ -49,12 +49,6 @@ module _ (end : ℕ → ℕ) (u : ℕ) where
       go (no p) (yes d) f = p (ap end (sym d) ∙ q)
       go (no p) (no d) f = f (omega arith) (omega (arith, last-there i p))
 
--- a number of a list of zeros, or one behind it
-pub zeros-behind : (n k : ℕ) → getD {A = ℕ} (replicate n 0) k 0 ≡ 0
-zeros-behind zero k = refl
-zeros-behind (suc n) zero = refl
-zeros-behind (suc n) (suc k) = zeros-behind n k
-
 module _ (end : ℕ → ℕ) where
   pub chain-begun : ChainedBy end 0 (replicate 576 0)
   unfolding lastAt

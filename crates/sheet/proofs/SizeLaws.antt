@@ -1,15 +1,16 @@
 -- A sheet has at most 3,144 bytes: eight for the five numbers in front, five for each of 512 arcs, one for each of 576 marks; and one has as many. Assumes
 -- nothing.
-use Prim.Native.Nat.{ℕ, zero, suc, _*_, _≤_}
+use Prim.Native.Nat.{ℕ, _*_, _≤_}
 use mathlib.Core.Path.{_≡_, refl, ap, _∙_}
 use mathlib.Core.Bool.{Bool, true, false, not, false≢true}
 use mathlib.Core.List.{List, [], _∷_, _++_}
 use native.Mathlib.Omega.{arith}
-use lib.ListN.{length, length-append, getD, replicate}
+use lib.ListN.{length, length-append, replicate}
 use lib.Dec.{eqb, leb}
 use borrow.Author.Tests.{eqb-true}
 use Rattle.lists.specs.Lists.{pick}
 use Rattle.lists.proofs.Pigeonhole.{Below}
+use Rattle.lists.proofs.FrontLaws.{zeros-at}
 use Rattle.lists.proofs.AscendLaws.{keep-none}
 use Rattle.lists.proofs.RowLaws.{rows-append}
 use Rattle.lists.proofs.TestLaws.{and-true, false-of}
@@ -92,11 +93,6 @@ unmarked S h = keep-none (isRequired S) (S .graph .nodes) 0 (λ j l g. false-of 
         let s = and-true (not (eqb j (S .source))) _ e in
         let t = and-true (not (eqb j (S .target))) _ (s .1) in
         false≢true (rw (h j, unmarked-ends S j (allArcs (S .graph)) h) at (t .1))
-
-zeros-at : (k i : ℕ) → _≡_ {A = ℕ} (getD (replicate k 0) i 0) 0
-zeros-at zero i = refl
-zeros-at (suc k) zero = refl
-zeros-at (suc k) (suc i) = zeros-at k i
 
 -- a longest sheet: 64 nodes, 512 arcs of 65,535 minutes, a limit of 1,000,000
 longest : Sheet

@@ -4,7 +4,8 @@ use mathlib.Core.Path.{_≡_, _∙_}
 use lib.ListN.{getD}
 use native.Mathlib.Omega.{arith}
 use Rattle.rows.specs.Net.{arcCount, tailIn}
-use Rattle.row_spread.proofs.ChainLaws.{chain-begun, chain-more, chain-behind, zeros-behind}
+use Rattle.row_spread.proofs.ChainLaws.{chain-begun, chain-more, chain-behind}
+use Rattle.lists.proofs.FrontLaws.{zeros-at}
 use Rattle.row_spread.specs.Arcs.{ChainedBy}
 use Rattle.row_spread.proofs.chained.Statement.{statement}
 use Rattle.row_spread.proofs.chained.Tie as tie
@@ -16,7 +17,7 @@ abbrev μ-loop : tie.MeasureT-loop
 μ-loop arcs chains₀ m i₀ chains i = arcCount arcs - i
 
 loop-holds : tie.Need-loop-holds Inv-loop μ-loop
-loop-holds c = (omega arith, chain-begun _, λ k h. zeros-behind 576 k)
+loop-holds c = (omega arith, chain-begun _, λ k h. zeros-at 576 k)
 
 cast-tail : tie.Need-cast-tail Inv-loop μ-loop
 cast-tail c = let s = c .before .before .before in omega (arith, s .pre .0 (c .before .before .loop .i) (c .before .loop-test .taken) .0)
