@@ -1,3 +1,4 @@
 pub mod VarintLaws
 pub mod ReadLaws
 pub mod WriteLaws
+pub mod SizeLaws
