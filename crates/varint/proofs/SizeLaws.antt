@@ -1,6 +1,6 @@
 -- How many bytes the numbers take that `writeNumber` and `writeNumbers` write: one more at each power of 128, and four at most. Assumes nothing.
 use Prim.Native.Nat.{ℕ, zero, suc, _+_, _*_, _/_, _%_, _≤_, _<_}
-use mathlib.Core.Path.{_≡_, refl, sym, ap, _∙_}
+use mathlib.Core.Path.{_≡_, refl, sym, ap}
 use mathlib.Core.List.{List, [], _∷_}
 use mathlib.Core.Bool.{Bool, true, false}
 use native.Mathlib.Omega.{arith}
@@ -12,33 +12,40 @@ use borrow.Author.Tests.{lt-ltb, le-ltb}
 use Rattle.lists.specs.Lists.{pick}
 use Rattle.varint.specs.Varint.{writeGroups, writeNumber, writeNumbers}
 
-groups-last : (k x : ℕ) → x < 128 → 1 ≡ length (writeGroups k x)
+groups-last : (k x : ℕ) → x < 128 → writeGroups k x ≡ x ∷ []
 unfolding writeGroups
 groups-last zero x h = refl
 groups-last (suc k) x h = rw (lt-ltb x 128 h)
+
+last-size : (k x : ℕ) → x < 128 → 1 ≡ length (writeGroups k x)
+last-size k x h = sym (ap length (groups-last k x h))
 
 groups-more : (k x : ℕ) → 128 ≤ x → {n : ℕ} → n ≡ length (writeGroups k (x / 128)) → suc n ≡ length (writeGroups (suc k) x)
 unfolding writeGroups
 groups-more k x h e = rw (le-ltb x 128 h) (ap suc e)
 
 module _ (x : ℕ) where
-  pub size-one : x < 128 → 1 ≡ length (writeNumber x)
+  -- a number below 128 is one byte, itself
+  pub number-byte : x < 128 → writeNumber x ≡ x ∷ []
   unfolding writeNumber
-  size-one h = groups-last 3 x h
+  number-byte h = groups-last 3 x h
+
+  pub size-one : x < 128 → 1 ≡ length (writeNumber x)
+  size-one h = sym (ap length (number-byte h))
 
   pub size-two : 128 ≤ x → x < 16384 → 2 ≡ length (writeNumber x)
   unfolding writeNumber
-  size-two l h = groups-more 2 x l (groups-last 2 (x / 128) (omega arith))
+  size-two l h = groups-more 2 x l (last-size 2 (x / 128) (omega arith))
 
   pub size-three : 16384 ≤ x → x < 2097152 → 3 ≡ length (writeNumber x)
   unfolding writeNumber
-  size-three l h = groups-more 2 x (omega arith) (groups-more 1 (x / 128) (omega arith) (groups-last 1 (x / 128 / 128) (omega arith)))
+  size-three l h = groups-more 2 x (omega arith) (groups-more 1 (x / 128) (omega arith) (last-size 1 (x / 128 / 128) (omega arith)))
 
   pub size-four : 2097152 ≤ x → x < 268435456 → 4 ≡ length (writeNumber x)
   unfolding writeNumber
   size-four l h =
       groups-more 2 x (omega arith)
-      (groups-more 1 (x / 128) (omega arith) (groups-more 0 (x / 128 / 128) (omega arith) (groups-last 0 (x / 128 / 128 / 128) (omega arith))))
+      (groups-more 1 (x / 128) (omega arith) (groups-more 0 (x / 128 / 128) (omega arith) (last-size 0 (x / 128 / 128 / 128) (omega arith))))
 
 groups-few : (k x : ℕ) → length (writeGroups k x) ≤ suc k
 unfolding writeGroups
