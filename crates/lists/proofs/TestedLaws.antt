@@ -19,7 +19,7 @@ pub failed : (r t : Bool) → r ≡ t → not r ≡ true → false ≡ t
 failed r t e p = sym (not-true r p) ∙ e
 
 -- the entry at i, and those behind it
-entry-at : (xs : List ℕ) (i : ℕ) → i < length xs → drop i xs ≡ getD xs i 0 ∷ drop (i + 1) xs
+pub entry-at : (xs : List ℕ) (i : ℕ) → i < length xs → drop i xs ≡ getD xs i 0 ∷ drop (i + 1) xs
 entry-at xs i h = rw (add-one i) (drop-cons xs i 0 h)
 
 module _ (f : ℕ → Bool) (xs : List ℕ) (i : ℕ) (e : every f xs ≡ every f (drop i xs)) where

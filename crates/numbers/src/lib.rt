@@ -1,4 +1,4 @@
-// Several numbers one behind the other (document 01, 'Sheet and slip'): passed over, read and written.
+// Several numbers one behind the other (document 01, 'Sheet and slip'): passed over, read, measured and written.
 ghost use mathlib.Core.Path.{_≡_};
 ghost use mathlib.Core.Bool.{true};
 ghost use Prim.Native.Nat.{_+_, _≤_, _<_};
@@ -90,4 +90,31 @@ pub fn put_indices(out: &mut [u8], indices: &[usize]) -> usize
         j += 1;
     }
     at
+}
+
+// How many bytes `put_numbers` writes for the numbers.
+pub fn sizes(numbers: &[u32]) -> usize
+    requires { ⌜ small (now numbers) ≡ true ⌝ }
+    ensures { λ r. ⌜ r ≡ length (writeNumbers (now (numbers .entry))) ⌝ }
+{
+    let mut total: usize = 0;
+    let mut j: usize = 0;
+    while j < numbers.len() {
+        total += varint::size_of(numbers[j]);
+        j += 1;
+    }
+    total
+}
+
+// Copies the bytes over the front of `out` and gives their count.
+pub fn put_bytes(out: &mut [u8], bytes: &[u8]) -> usize
+    requires { ⌜ length (now bytes) ≤ length (now out) ⌝ }
+    ensures { λ r. ⌜ Put (now (bytes .entry)) (now (out .entry)) (now (out .exit)) r ⌝ }
+{
+    let mut i: usize = 0;
+    while i < bytes.len() {
+        out[i] = bytes[i];
+        i += 1;
+    }
+    i
 }

@@ -22,6 +22,7 @@ use walks::ARC_NUMBERS;
 use walks::FORBIDDEN;
 use walks::GOALS;
 use walks::ITEMS;
+use work::Answer;
 use work::WORK_NUMBERS;
 
 // The bytes of a slip that an operation asks for.
@@ -29,12 +30,6 @@ pub const SLIP_BYTES: usize = 1200;
 
 // The verdict that no walk meets all goals at once.
 const ALL_GOALS: u32 = 3;
-
-// What pass and reason answer: the refusal number, 0 where the call finished, and the slip's length.
-pub struct Answer {
-    pub number: u32,
-    pub length: usize,
-}
 
 // Whether some item is forbidden.
 fn any_forbidden(marks: &[u8]) -> bool

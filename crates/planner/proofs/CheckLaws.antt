@@ -39,10 +39,10 @@ module _ (sheet work slip : List ℕ) where
         rw (n, z, le-ltb (length work) 65536 h) (ap (λ (a : CheckAnswer). told a work) e ∙ told-is work (checkOn sheet slip) (check-drawn sheet slip))
 
     -- the one number fits
-    pub check-small : a .number ≤ 18
+    pub check-small : a .number ≤ 27
     unfolding checkAnswerOf
     check-small = rw e (go (checkOn sheet slip) (check-drawn sheet slip))
       where
-        go : (r : Read Bool) → Drawn r → checkAnswerOf r .number ≤ 18
+        go : (r : Read Bool) → Drawn r → checkAnswerOf r .number ≤ 27
         go (got answer rest) l = omega arith
-        go (refuse e) l = l .1
+        go (refuse e) l = omega (arith, l .1)

@@ -43,10 +43,10 @@ module _ (a : Answer) (work slip : List ℕ) where
         rw (n, z, le-ltb (length work) 65536 h, le-ltb (length slip) 1200 g) (ap (λ (w : Wrote). told w work) e ∙ told-is work slip a l)
 
 -- the one number fits
-pub small : (a : Answer) (slip : List ℕ) → Within a → (w : Wrote) → w ≡ wrote a slip → (w .number ≤ 18) × (w .length ≤ 1200)
+pub small : (a : Answer) (slip : List ℕ) → Within a → (w : Wrote) → w ≡ wrote a slip → (w .number ≤ 27) × (w .length ≤ 65535)
 unfolding wrote
 small a slip l w e = rw e (go a l)
   where
-    go : (a : Answer) → Within a → (wrote a slip .number ≤ 18) × (wrote a slip .length ≤ 1200)
-    go (finished bytes) l = (omega arith, l)
+    go : (a : Answer) → Within a → (wrote a slip .number ≤ 27) × (wrote a slip .length ≤ 65535)
+    go (finished bytes) l = (omega arith, omega arith)
     go (refused e) l = (omega (arith, l .1), omega arith)

@@ -1,3 +1,4 @@
 pub mod Layer
 pub mod Check
+pub mod Write
 pub mod Copied

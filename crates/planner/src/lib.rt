@@ -1,4 +1,4 @@
-// The planner's layer (document 01, 'The operations and what they refuse'): the operations for a program in C, with numbers and byte slices alone.
+// The planner's layer (document 01, 'The operations and what they refuse'): the operations for a program in C, with numbers and slices alone.
 //
 // The work is lent as bytes, four per number, low byte first. What its numbers hold has no effect on an answer, and an operation leaves them as found or zero;
 // so each call lends the operation nothing of them, and the bytes are left as found or zeroed by the same rule. That this is what copying the bytes in and
@@ -7,7 +7,10 @@ ghost use mathlib.Core.Path.{_≡_};
 ghost use Prim.Native.Nat.{_+_, _*_, _≤_};
 ghost use Rattle.planner.specs.Layer.{passedBytes, reasonedBytes};
 ghost use Rattle.planner.specs.Check.{yesNumber, checkedBytes};
+ghost use Rattle.planner.specs.Write.{writtenNumber};
+ghost use Rattle.sheet.specs.Draft.{draftOf};
 use pass::SLIP_BYTES;
+use sheet::Header;
 use work::WORK_BYTES;
 
 // What a refusal number counts in the one number of a call.
@@ -18,9 +21,9 @@ const SHORT_WORK: u32 = REFUSAL;
 
 const SHORT_SLIP: u32 = 2 * REFUSAL;
 
-// The one number of a call: the refusal and the slip's length, or 1 for yes.
+// The one number of a call: the refusal, and the length of what was written or 1 for yes.
 fn one_number(number: u32, length: usize) -> u32
-    requires { ⌜ (number ≤ 18) × (length ≤ 1200) ⌝ }
+    requires { ⌜ (number ≤ 27) × (length ≤ 65535) ⌝ }
     ensures { λ r. ⌜ r ≡ 65536 * number + length ⌝ }
 {
     REFUSAL * number + length as u32
@@ -78,4 +81,31 @@ pub extern "C" fn ways_check(sheet: &[u8], work: &mut [u8], slip: &[u8]) -> u32
     let answer = checker::check_sheet(sheet, slip);
     work::leave_bytes(work, answer.number);
     one_number(answer.number, yes_number(answer.yes))
+}
+
+// Writes a sheet for a program in C. It has more than six parameters, since C lends no struct here: each number of the header comes by itself.
+#[no_mangle]
+pub extern "C" fn ways_write(
+    n: u32,
+    m: u32,
+    start: u32,
+    finish: u32,
+    limit: u32,
+    legs: &[u32],
+    marks: &[u8],
+    sheet: &mut [u8],
+) -> u32
+    ensures { λ r. let d = draftOf (record { nodes = n; arcs = m; source = start; target = finish; limit = limit })
+        (now (legs .entry)) (now (marks .entry)) in
+        ⌜ record { number = r; out = now (sheet .exit) } ≡ writtenNumber d (now (sheet .entry)) ⌝ }
+{
+    let header = Header {
+        nodes: n as usize,
+        arcs: m as usize,
+        source: start as usize,
+        target: finish as usize,
+        limit: limit,
+    };
+    let answer = sheet_writer::write_sheet(header, legs, marks, sheet);
+    one_number(answer.number, answer.length)
 }

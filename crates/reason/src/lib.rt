@@ -8,13 +8,13 @@ ghost use Rattle.rows.specs.Rows.{scratchNumbers};
 ghost use Rattle.sheet.specs.Sheet.{sheetOf};
 ghost use Rattle.sheet_required.specs.Held.{Whole};
 ghost use Rattle.reason_rules.specs.Reason.{prunes, reasonIn, reasonOn, reasoned};
-use pass::Answer;
 use sheet::Header;
 use sheet_reader::SheetRead;
 use walks::ARC_NUMBERS;
 use walks::GOALS;
 use walks::ITEMS;
 use walks::OPEN;
+use work::Answer;
 
 // The first number of a struck item's slip.
 const STRUCK: u32 = 4;

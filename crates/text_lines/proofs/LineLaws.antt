@@ -1,4 +1,4 @@
--- Laws of lines: a number's digits by its last one, rows and words as written entry by entry, and how long a line is. Assumes nothing.
+-- Laws of lines: a number's digits by its last one, rows as written number by number, and how long a line is. Assumes nothing.
 use Prim.Native.Nat.{ℕ, zero, suc, _+_, _*_, _/_, _%_, _≤_, _<_}
 use mathlib.Core.Path.{_≡_, refl, ap, sym, _∙_}
 use mathlib.Core.List.{List, [], _∷_, _++_}
@@ -64,16 +64,6 @@ module _ (n : ℕ) (d : List ℕ) (many : 10 ≤ n) (wide : n < 4294967296) (fit
     rw (decimal-last n many wide, length-append) (omega (arith, a)),
     rw (decimal-last n many wide) (push-at (decimal (n / 10)) d out at (48 + n % 10) e (sym a) (omega (arith, last-room, a))),
   )
-
--- a word is written byte by byte
-abbrev pub byte : ℕ → List ℕ
-byte x = x ∷ []
-
-abbrev pub bytes : List ℕ → List ℕ
-bytes xs = xs
-
-pub bytes-rows : Rows byte bytes
-bytes-rows = record { empty = refl; first = λ x xs. refl }
 
 -- a row is written number by number, each behind its space
 pub spaced-rows : Rows spaced row

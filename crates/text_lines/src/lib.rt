@@ -50,25 +50,12 @@ fn put_row(out: &mut [u8], numbers: &[usize]) -> usize
     at
 }
 
-// Writes a word.
-fn put_word(out: &mut [u8], word: &[u8]) -> usize
-    requires { ⌜ length (now word) ≤ length (now out) ⌝ }
-    ensures { λ r. ⌜ Put (now (word .entry)) (now (out .entry)) (now (out .exit)) r ⌝ }
-{
-    let mut i: usize = 0;
-    while i < word.len() {
-        out[i] = word[i];
-        i += 1;
-    }
-    i
-}
-
 // Writes a line, the word and the numbers behind it, over the front of `out` and gives its length.
 pub fn put_line(out: &mut [u8], word: &[u8], numbers: &[usize]) -> usize
     requires { ⌜ (small (now numbers) ≡ true) × (length (line (now word) (now numbers)) ≤ length (now out)) ⌝ }
     ensures { λ r. ⌜ Put (line (now (word .entry)) (now (numbers .entry))) (now (out .entry)) (now (out .exit)) r ⌝ }
 {
-    let at = put_word(out, word);
+    let at = numbers::put_bytes(out, word);
     let end = at + put_row(&mut out[at..], numbers);
     out[end] = LINE_END;
     end + 1

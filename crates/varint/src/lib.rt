@@ -65,3 +65,20 @@ pub fn put_number(out: &mut [u8], x: u32) -> usize
     out[i] = rest as u8;
     i + 1
 }
+
+// How many bytes `put_number` writes for x.
+pub fn size_of(x: u32) -> usize
+    requires { ⌜ x < 268435456 ⌝ }
+    ensures { λ r. ⌜ r ≡ length (writeNumber x) ⌝ }
+{
+    if x < 128 {
+        return 1;
+    }
+    if x < 16384 {
+        return 2;
+    }
+    if x < 2097152 {
+        return 3;
+    }
+    4
+}

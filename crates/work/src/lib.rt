@@ -1,4 +1,5 @@
-// The work that an operation is lent, as numbers or as bytes, and what a call leaves in it (document 01, 'The operations and what they refuse').
+// The work that an operation is lent, as numbers or as bytes, what a call leaves in it, and what it answers (document 01, 'The operations and what they
+// refuse').
 ghost use mathlib.Core.Path.{_≡_};
 ghost use Prim.Native.Nat.{_≤_};
 ghost use lib.ListN.{length};
@@ -14,6 +15,12 @@ pub const WORK_BYTES: usize = 65536;
 
 // The last refusal that leaves the work as found.
 const LAST_UNTOUCHED: u32 = 13;
+
+// What every call that writes into one slice answers: the refusal number, 0 where it finished, and the length of what it wrote there.
+pub struct Answer {
+    pub number: u32,
+    pub length: usize,
+}
 
 // Leaves the first 16,384 work numbers zero and the rest as found.
 fn zero(work: &mut [u32])

@@ -1,22 +1,31 @@
--- `put_word` copies the word. The invariant (`Row`): its first i bytes stand in front. Assumes nothing.
+-- `put_bytes` copies the bytes. The invariant (`Row`): the first i stand in front. Assumes nothing.
 use borrow.Author.Needs.{needs}
-use Prim.Native.Nat.{_-_}
+use Prim.Native.Nat.{ℕ, _-_}
 use mathlib.Core.Path.{refl}
+use mathlib.Core.List.{List, [], _∷_}
 use native.Mathlib.Omega.{arith}
 use lib.ListN.{length}
-use Rattle.lists.proofs.RowLaws.{Row, begun, row-kept, row-store-within, row-store, row-done}
-use Rattle.text_lines.proofs.LineLaws.{byte, bytes, bytes-rows}
-use Rattle.text_lines.proofs.put_word.Statement.{statement}
-use Rattle.text_lines.proofs.put_word.Tie as tie
+use Rattle.lists.proofs.RowLaws.{Rows, Row, begun, row-kept, row-store-within, row-store, row-done}
+use Rattle.numbers.proofs.put_bytes.Statement.{statement}
+use Rattle.numbers.proofs.put_bytes.Tie as tie
+
+abbrev byte : ℕ → List ℕ
+byte x = x ∷ []
+
+abbrev row : List ℕ → List ℕ
+row xs = xs
+
+byte-rows : Rows byte row
+byte-rows = record { empty = refl; first = λ x xs. refl }
 
 abbrev Inv-loop : tie.InvT-loop
-Inv-loop out₀ word i₀ out i = Row byte bytes word out₀ out i i
+Inv-loop out₀ copied i₀ out i = Row byte row copied out₀ out i i
 
 abbrev μ-loop : tie.MeasureT-loop
-μ-loop out₀ word i₀ out i = length word - i
+μ-loop out₀ copied i₀ out i = length copied - i
 
 loop-holds : tie.Need-loop-holds Inv-loop μ-loop
-loop-holds c = begun _ _ bytes-rows (c .pre)
+loop-holds c = begun _ _ byte-rows (c .pre)
 
 shared-slice-read-out : tie.Need-shared-slice-read-out Inv-loop μ-loop
 shared-slice-read-out c = search needs
@@ -39,8 +48,8 @@ same-length c = row-kept (c .before .loop .inv)
 returns : tie.Need-returns Inv-loop μ-loop
 returns c = row-done (c .before .loop .inv) (c .loop-test .left)
 
-pub put-word-spec : {M : Type 1} → statement M
-put-word-spec =
+pub put-bytes-spec : {M : Type 1} → statement M
+put-bytes-spec =
     tie.close
     (tie.spec
     Inv-loop

@@ -1,0 +1,50 @@
+-- `sheet_size` counts the bytes of the five numbers, of the arcs' numbers and of the marks, one each. Assumes nothing.
+use mathlib.Core.Path.{_≡_, ap, _∙_}
+use mathlib.Core.List.{List}
+use native.Mathlib.Omega.{arith}
+use Prim.Native.Nat.{ℕ}
+use borrow.Author.Needs.{needs}
+use lib.ListN.{length}
+use Rattle.sheet.specs.Draft.{headerNumbers}
+use Rattle.varint.specs.Answer.{small}
+use Rattle.varint.specs.Varint.{writeNumbers}
+use Rattle.sheet_writer.proofs.DraftLaws.{small-header, small-arcs, size-is, size-few}
+use Rattle.sheet_writer.proofs.sheet_size.Statement.{statement}
+use Rattle.sheet_writer.proofs.sheet_size.Tie as tie
+
+header-numbers-requires : tie.Need-header-numbers-requires
+header-numbers-requires c κs = small-header _ _ _ (c .before .before .pre)
+
+slice-aggregate-sizes : tie.Need-slice-aggregate-sizes
+slice-aggregate-sizes c = search needs
+
+sizes-requires : tie.Need-sizes-requires
+sizes-requires c κs = ap small (c .before .header-numbers .ensures) ∙ small-header _ _ _ (c .before .before .before .before .pre)
+
+sizes-requires-2 : tie.Need-sizes-requires-2
+sizes-requires-2 c κs = small-arcs _ _ _ (c .before .before .before .before .before .pre)
+
+-- the measured numbers in front
+header-size : (p : tie.After-sizes2) → p .before .sizes .result ≡ length (writeNumbers (headerNumbers (p .before .before .before .before .before .before .args .header)))
+header-size p = p .before .sizes .ensures ∙ ap (λ (xs : List ℕ). length (writeNumbers xs)) (p .before .before .before .header-numbers .ensures)
+
+add-result : tie.Need-add-result
+add-result c = omega (arith, header-size c, c .sizes2 .ensures, size-is _ _ _ (c .before .before .before .before .before .before .pre), size-few _ _ _ (c .before .before .before .before .before .before .pre))
+
+add-result-2 : tie.Need-add-result-2
+add-result-2 c = omega (arith, header-size c, c .sizes2 .ensures, size-is _ _ _ (c .before .before .before .before .before .before .pre), size-few _ _ _ (c .before .before .before .before .before .before .pre))
+
+returns : tie.Need-returns
+returns c = omega (arith, header-size c, c .sizes2 .ensures, size-is _ _ _ (c .before .before .before .before .before .before .pre))
+
+pub sheet-size-spec : {M : Type 1} → statement M
+sheet-size-spec =
+    tie.close
+    (tie.spec
+    header-numbers-requires
+    slice-aggregate-sizes
+    sizes-requires
+    sizes-requires-2
+    add-result
+    add-result-2
+    returns)
