@@ -6,11 +6,11 @@ use native.Mathlib.Omega.{arith}
 use Rattle.sheet.specs.declared.Header.{Header}
 use Rattle.sheet.specs.Answer.{Wrote}
 use Rattle.sheet.specs.Draft.{draftOf}
-use Rattle.sheet.specs.Writer.{written}
-use Rattle.sheet_writer.proofs.WithinLaws.{write-within}
+use Rattle.sheet.specs.Writer.{sheetWritten}
+use Rattle.sheet.proofs.SizeLaws.{written-size}
 use Rattle.planner.specs.Write.{WrittenNumber, oneNumber, writtenNumber}
 
-module _ (h : Header) (arcs marks out : List ℕ) (w : Wrote) (e : w ≡ written (draftOf h arcs marks) out) where
+module _ (h : Header) (arcs marks out : List ℕ) (w : Wrote) (e : w ≡ sheetWritten (draftOf h arcs marks) out) where
   pub write-number : {number : ℕ} → number ≡ 65536 * w .number + w .length
       → record { number = number; out = w .out } ≡ writtenNumber (draftOf h arcs marks) out
   unfolding writtenNumber oneNumber
@@ -19,5 +19,5 @@ module _ (h : Header) (arcs marks out : List ℕ) (w : Wrote) (e : w ≡ written
   -- the one number fits
   pub write-small : (w .number ≤ 27) × (w .length ≤ 65535)
   write-small =
-      let l = write-within h arcs marks out in
+      let l = written-size (draftOf h arcs marks) out in
       (omega (arith, ap (λ (w : Wrote). w .number) e, l .0), omega (arith, ap (λ (w : Wrote). w .length) e, l .1))

@@ -30,19 +30,33 @@ unfolding fault
 fault-none e true q = refl
 fault-none e false q = absurd (omega (arith, q))
 
-header-small : (h : Header) → headerFault h ≡ 0 → (h .nodes ≤ 64) × Below 268435456 (headerNumbers h)
-unfolding headerFault headerNumbers
-header-small h e =
+-- a header without a fault
+pub record Bounded (h : Header) : Type 0 where
+  pub nodes : h .nodes ≤ 64
+  pub arcs : h .arcs ≤ 512
+  pub source : h .source < h .nodes
+  pub target : h .target < h .nodes
+  pub limit : h .limit ≤ 1000000
+
+pub header-bounded : (h : Header) → headerFault h ≡ 0 → Bounded h
+unfolding headerFault
+header-bounded h e =
     let a = first-none _ _ e in
     let b = first-none _ _ (a .1) in
     let c = first-none _ _ (b .1) in
     let d = first-none _ _ (c .1) in
-    let n : h .nodes ≤ 64 = leb-true (h .nodes) 64 (and-true (leb 2 (h .nodes)) _ (fault-none 4 _ (a .0)) .1) in
-    let m : h .arcs ≤ 512 = leb-true (h .arcs) 512 (fault-none 5 _ (b .0)) in
-    let s : h .source < h .nodes = ltb-true (h .source) (h .nodes) (fault-none 6 _ (c .0)) in
-    let t : h .target < h .nodes = ltb-true (h .target) (h .nodes) (and-true _ _ (fault-none 6 _ (d .0)) .0) in
-    let k : h .limit ≤ 1000000 = leb-true (h .limit) 1000000 (fault-none 7 _ (d .1)) in
-    (n, (omega arith, (omega arith, (omega arith, (omega arith, (omega arith, tt))))))
+    record {
+      nodes = leb-true (h .nodes) 64 (and-true (leb 2 (h .nodes)) _ (fault-none 4 _ (a .0)) .1);
+      arcs = leb-true (h .arcs) 512 (fault-none 5 _ (b .0));
+      source = ltb-true (h .source) (h .nodes) (fault-none 6 _ (c .0));
+      target = ltb-true (h .target) (h .nodes) (and-true _ _ (fault-none 6 _ (d .0)) .0);
+      limit = leb-true (h .limit) 1000000 (fault-none 7 _ (d .1));
+    }
+
+header-small : {h : Header} → Bounded h → Below 268435456 (headerNumbers h)
+unfolding headerNumbers
+header-small b =
+    (omega (arith, b .nodes), (omega (arith, b .arcs), (omega (arith, b .source, b .nodes), (omega (arith, b .target, b .nodes), (omega (arith, b .limit), tt)))))
 
 arcs-small : (n : ℕ) → n ≤ 64 → (xs : List ℕ) (m : ℕ) → length xs ≡ 3 * m → arcsFault n xs ≡ 0 → Below 268435456 xs
 unfolding arcsFault arcFault
@@ -69,6 +83,9 @@ marks-small (x ∷ xs) e =
 -- a draft without a fault
 pub record Faultless (d : Draft) : Type 0 where
   pub sized : Sized d
+  pub header : Below 268435456 (headerNumbers (d .header))
+  pub arcs : Below 268435456 (d .arcs)
+  pub marks : marksFault (d .marks) ≡ 0
   pub below : Below 268435456 (draftNumbers d)
 
 pub faultless : (d : Draft) → draftFault d ≡ 0 → Faultless d
@@ -80,12 +97,14 @@ faultless d e =
     let m = first-none _ _ (a .1) in
     let z = and-true _ _ (fault-none 2 _ (s .0)) in
     let c = eqb-true _ _ (z .0) in
-    let H = header-small (d .header) (h .0) in
+    let B = header-bounded (d .header) (h .0) in
+    let arcs = arcs-small (d .header .nodes) (B .nodes) (d .arcs) (d .header .arcs) c (a .0) in
     record {
       sized = (c, eqb-true _ _ (z .1));
-      below =
-          below-append 268435456 (headerNumbers (d .header)) _ (H .1)
-          (below-append 268435456 (d .arcs) (d .marks) (arcs-small (d .header .nodes) (H .0) (d .arcs) (d .header .arcs) c (a .0)) (marks-small (d .marks) (m .0)));
+      header = header-small B;
+      arcs = arcs;
+      marks = m .0;
+      below = below-append 268435456 (headerNumbers (d .header)) _ (header-small B) (below-append 268435456 (d .arcs) (d .marks) arcs (marks-small (d .marks) (m .0)));
     }
 
 -- what is written always has a written form

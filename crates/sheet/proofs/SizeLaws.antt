@@ -26,7 +26,7 @@ use Rattle.sheet.specs.Draft.{headerNumbers, sheetNumbers, sheetBytes, D
 use Rattle.sheet.specs.Good.{Good, GoodArc, All}
 use Rattle.sheet.specs.Reader.{taken}
 use Rattle.sheet.specs.Sheet.{Sheet, headerOf, markOf, isMandatory, endsMandatory, isRequired, required, allNodes, allArcs}
-use Rattle.sheet.specs.Writer.{fault, firstOf, headerFault, sizeFault, arcFault, arcsFault, marksFault, requiredFault, draftFault, writeOn, written}
+use Rattle.sheet.specs.Writer.{fault, firstOf, headerFault, sizeFault, arcFault, arcsFault, marksFault, requiredFault, draftFault, writeOn, sheetWritten}
 
 arcs-short : (n : ℕ) → n ≤ 64 → (xs : List Arc) → All (GoodArc n) xs → length (writeNumbers (flat xs)) ≤ 5 * length xs
 unfolding writeNumbers flat
@@ -67,8 +67,8 @@ pub taken-size : (bs : List ℕ) (S : Sheet) → Below 256 bs → taken bs ≡ g
 taken-size bs S B e = rw (written-again bs S B e .0) at (sheet-size S (taken-good bs S (taken-got bs S [] e .0)))
 
 -- and so has every sheet that is written; what the writer gives is a number of at most 19 with such a length
-pub written-size : (d : Draft) (out : List ℕ) → (written d out .number ≤ 19) × (written d out .length ≤ 3144)
-unfolding written writeOn wrote fitted
+pub written-size : (d : Draft) (out : List ℕ) → (sheetWritten d out .number ≤ 19) × (sheetWritten d out .length ≤ 3144)
+unfolding sheetWritten writeOn wrote fitted
 written-size d out = go (eqb (draftFault d) 0) refl (leb (length (sheetBytes (draftSheet d))) (length out))
   where
     go : (t : Bool) → eqb (draftFault d) 0 ≡ t → (u : Bool)

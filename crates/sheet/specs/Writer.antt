@@ -62,5 +62,5 @@ unfoldable pub writeOn : Draft → List ℕ → Answer
 writeOn d out = pick (eqb (draftFault d) 0) (fitted (sheetBytes (draftSheet d)) out) (refused (draftFault d))
 
 -- the writer, for every draft and slice
-unfoldable pub written : Draft → List ℕ → Wrote
-written d out = wrote (writeOn d out) out
+unfoldable pub sheetWritten : Draft → List ℕ → Wrote
+sheetWritten d out = wrote (writeOn d out) out

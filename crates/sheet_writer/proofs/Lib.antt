@@ -1,3 +1,2 @@
 pub mod FaultLaws
 pub mod DraftLaws
-pub mod WithinLaws

@@ -1,4 +1,4 @@
-// The writer of sheets (document 01, 'Sheet and slip'): numbers are judged as the reader judges them, measured, and only then written.
+// The writer of sheets: numbers are judged as the reader judges a sheet, measured, and only then written.
 ghost use mathlib.Core.Path.{_≡_};
 ghost use mathlib.Core.Bool.{true};
 ghost use Prim.Native.Nat.{_≤_};
@@ -8,7 +8,7 @@ ghost use Rattle.lists.specs.Lists.{front, Put};
 ghost use Rattle.varint.specs.Answer.{small};
 ghost use Rattle.varint.specs.Varint.{writeNumbers};
 ghost use Rattle.sheet.specs.Draft.{draftOf, draftSheet, headerNumbers, sheetBytes};
-ghost use Rattle.sheet.specs.Writer.{headerFault, arcFault, arcsFault, marksFault, requiredFault, draftFault, written};
+ghost use Rattle.sheet.specs.Writer.{headerFault, arcFault, arcsFault, marksFault, requiredFault, draftFault, sheetWritten};
 ghost use Rattle.sheet_required.specs.Held.{Held};
 use sheet::Header;
 use walks::ARCS;
@@ -183,10 +183,10 @@ fn put_sheet(header: Header, arcs: &[u32], marks: &[u8], sheet: &mut [u8]) -> us
     end + numbers::put_bytes(&mut sheet[end..], marks)
 }
 
-// Writes a sheet: for every header, lists and slice what document 01 says, refused ones too. Nothing is written before all is judged and measured.
+// Writes a sheet, for every header, lists and slice. Nothing is written before all is judged and measured.
 pub fn write_sheet(header: Header, arcs: &[u32], marks: &[u8], sheet: &mut [u8]) -> Answer
     ensures { λ r. let d = draftOf header (now (arcs .entry)) (now (marks .entry)) in
-        ⌜ record { number = r .number; length = r .length; out = now (sheet .exit) } ≡ written d (now (sheet .entry)) ⌝ }
+        ⌜ record { number = r .number; length = r .length; out = now (sheet .exit) } ≡ sheetWritten d (now (sheet .entry)) ⌝ }
 {
     let fault = draft_fault(header, arcs, marks);
     if fault != 0 {

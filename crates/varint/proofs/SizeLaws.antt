@@ -8,17 +8,13 @@ use lib.Dec.{ltb}
 use native.Mathlib.Numerals.{add-one}
 use lib.ListN.{length, getD, drop, length-append, drop-of-length-le}
 use lib.Seq.{drop-cons}
-use borrow.Author.Tests.{lt-ltb, le-ltb}
+use borrow.Author.Tests.{le-ltb}
 use Rattle.lists.specs.Lists.{pick}
+use Rattle.varint.proofs.WriteLaws.{groups-last}
 use Rattle.varint.specs.Varint.{writeGroups, writeNumber, writeNumbers}
 
-groups-last : (k x : ℕ) → x < 128 → writeGroups k x ≡ x ∷ []
-unfolding writeGroups
-groups-last zero x h = refl
-groups-last (suc k) x h = rw (lt-ltb x 128 h)
-
 last-size : (k x : ℕ) → x < 128 → 1 ≡ length (writeGroups k x)
-last-size k x h = sym (ap length (groups-last k x h))
+last-size k x h = sym (ap length (groups-last k x (omega arith)))
 
 groups-more : (k x : ℕ) → 128 ≤ x → {n : ℕ} → n ≡ length (writeGroups k (x / 128)) → suc n ≡ length (writeGroups (suc k) x)
 unfolding writeGroups
@@ -28,7 +24,7 @@ module _ (x : ℕ) where
   -- a number below 128 is one byte, itself
   pub number-byte : x < 128 → writeNumber x ≡ x ∷ []
   unfolding writeNumber
-  number-byte h = groups-last 3 x h
+  number-byte h = groups-last 3 x (omega arith)
 
   pub size-one : x < 128 → 1 ≡ length (writeNumber x)
   size-one h = sym (ap length (number-byte h))

@@ -3,7 +3,7 @@ use mathlib.Core.Path.{_≡_, sym, _∙_}
 use native.Mathlib.Omega.{arith}
 use borrow.Author.Needs.{needs}
 use Rattle.sheet.specs.Writer.{headerFault}
-use Rattle.sheet_writer.proofs.DraftLaws.{Bounded, header-bounded}
+use Rattle.sheet.proofs.FaultLaws.{Bounded, header-bounded}
 use Rattle.sheet_writer.proofs.FaultLaws.{in-header, other-arcs, other-marks, in-arcs, in-marks, in-required}
 use Rattle.sheet_writer.proofs.draft_fault.Statement.{statement}
 use Rattle.sheet_writer.proofs.draft_fault.Tie as tie
