@@ -1,6 +1,12 @@
 // Runs the lines of document 01, 'The sheet B and what it gives', through pass, reason and check, and prints what each gives. The work and the slip
-// are lent longer than asked for and filled before the call, so that what is left as found can be seen. Then views of arcs.
+// are lent longer than asked for and filled before the call, so that what is left as found can be seen. Then views of arcs, and sheets that are written.
+ghost use Prim.Native.Nat.{_≤_};
 use libc::STDOUT_FILENO;
+use sheet::Header;
+use sheet_reader::SheetRead;
+use walks::ARC_NUMBERS;
+use walks::ITEMS;
+use work::Answer;
 use work::WORK_NUMBERS;
 
 // A few more work numbers than an operation asks for, and a slip longer than asked for.
@@ -8,16 +14,19 @@ const WORK_LENT: usize = WORK_NUMBERS + 6;
 
 const SLIP_LENT: usize = 1210;
 
+// More bytes than the writer is lent for a sheet.
+const SHEET_LENT: usize = 40;
+
 // What the work and the slip hold before a call.
 const FILLED_NUMBER: u32 = 2779096485;
 
 const FILLED_BYTE: u8 = 165;
 
 // Whether the bytes from `from` on are as they were filled.
-fn is_slip_kept(slip: &[u8], from: usize) -> bool {
+fn is_kept(bytes: &[u8], from: usize) -> bool {
     let mut i = from;
-    while i < slip.len() {
-        if slip[i] != FILLED_BYTE {
+    while i < bytes.len() {
+        if bytes[i] != FILLED_BYTE {
             return false;
         }
         i += 1;
@@ -46,11 +55,11 @@ fn print_byte(byte: u8) {
 }
 
 // Prints the first `count` bytes in hex.
-fn print_bytes(slip: &[u8], count: usize) {
+fn print_bytes(bytes: &[u8], count: usize) {
     let mut i: usize = 0;
     while i < count {
-        if i < slip.len() {
-            print_byte(slip[i]);
+        if i < bytes.len() {
+            print_byte(bytes[i]);
         }
         i += 1;
     }
@@ -59,7 +68,7 @@ fn print_bytes(slip: &[u8], count: usize) {
 // Prints what a finished call left.
 fn show_finished(work: &[u32], slip: &[u8], length: usize) {
     print_bytes(slip, length);
-    if is_slip_kept(slip, length) && is_work_all(work, WORK_NUMBERS, WORK_LENT, FILLED_NUMBER) {
+    if is_kept(slip, length) && is_work_all(work, WORK_NUMBERS, WORK_LENT, FILLED_NUMBER) {
         io::write_all(STDOUT_FILENO, b"; rest untouched");
     }
     if is_work_all(work, 0, WORK_NUMBERS, 0) {
@@ -71,7 +80,7 @@ fn show_finished(work: &[u32], slip: &[u8], length: usize) {
 fn show_refused(work: &[u32], slip: &[u8], number: u32) {
     io::write_all(STDOUT_FILENO, b" refused ");
     io::print_decimal(STDOUT_FILENO, number as u64);
-    if is_slip_kept(slip, 0) && is_work_all(work, 0, WORK_LENT, FILLED_NUMBER) {
+    if is_kept(slip, 0) && is_work_all(work, 0, WORK_LENT, FILLED_NUMBER) {
         io::write_all(STDOUT_FILENO, b"; all untouched");
     }
 }
@@ -329,6 +338,197 @@ fn empty_views() {
     );
 }
 
+// Prints what a call of the writer gives and leaves, and the line's end.
+fn show_written(sheet: &[u8], answer: Answer) {
+    if answer.number == 0 {
+        print_bytes(sheet, answer.length);
+        if is_kept(sheet, answer.length) {
+            io::write_all(STDOUT_FILENO, b"; rest untouched");
+        }
+    } else {
+        io::write_all(STDOUT_FILENO, b" refused ");
+        io::print_decimal(STDOUT_FILENO, answer.number as u64);
+        if is_kept(sheet, 0) {
+            io::write_all(STDOUT_FILENO, b"; all untouched");
+        }
+    }
+    io::write_all(STDOUT_FILENO, b"\n");
+}
+
+// Prints a line: the name, and what the writer gives that is lent a slice of so many bytes. More bytes stand behind the slice.
+fn show_write(name: &[u8], header: Header, legs: &[u32], marks: &[u8], size: usize)
+    requires { ⌜ size ≤ 40 ⌝ }
+{
+    io::write_all(STDOUT_FILENO, name);
+    io::write_all(STDOUT_FILENO, b":");
+    let mut sheet = [FILLED_BYTE; SHEET_LENT];
+    let answer = sheet_writer::write_sheet(header, legs, marks, &mut sheet[..size]);
+    show_written(&sheet, answer);
+}
+
+// Prints a line: the name, and what the reader stores of a sheet of 29 bytes, written again.
+fn show_again(name: &[u8], sheet: &[u8]) {
+    let mut legs = [0u32; ARC_NUMBERS];
+    let mut marks = [0u8; ITEMS];
+    let header = match sheet_reader::read(sheet, &mut legs, &mut marks) {
+        SheetRead::Got(header) => header,
+        SheetRead::Refused(_) => return,
+    };
+    let numbers = 3 * header.arcs;
+    let items = header.nodes + header.arcs;
+    show_write(name, header, &legs[..numbers], &marks[..items], 29);
+}
+
+// The five numbers of B with another limit.
+fn header_of_b(limit: u32) -> Header {
+    Header {
+        nodes: 4,
+        arcs: 5,
+        source: 0,
+        target: 3,
+        limit: limit,
+    }
+}
+
+// Sheets made of numbers, in slices that are just long enough.
+fn written_sheets() {
+    show_again(
+        b"B, read and written again",
+        b"\x04\x05\x00\x03\x08\x00\x01\x04\x01\x03\x04\x00\x02\x03\x02\x03\x09\x01\x02\x01\x00\x00\x00\x00\x00\x00\x00\x00\x00",
+    );
+    let legs = [0u32, 1, 4, 1, 3, 4, 0, 2, 3, 2, 3, 9, 1, 2, 1];
+    let marks = [0u8; 9];
+    show_write(b"B written, slice of 29", header_of_b(8), &legs, &marks, 29);
+    show_write(
+        b"K 1,000,000, slice of 31",
+        header_of_b(1000000),
+        &legs,
+        &marks,
+        31,
+    );
+    let two = Header {
+        nodes: 2,
+        arcs: 0,
+        source: 1,
+        target: 0,
+        limit: 0,
+    };
+    show_write(b"Two places, slice of 7", two, &legs[..0], b"\x00\x02", 7);
+}
+
+// Slices that are too short, and lists of another length than the header says.
+fn unwritten_sheets() {
+    let legs = [0u32, 1, 4, 1, 3, 4, 0, 2, 3, 2, 3, 9, 1, 2, 1];
+    let marks = [0u8; 9];
+    show_write(b"B written, slice of 28", header_of_b(8), &legs, &marks, 28);
+    show_write(
+        b"K 1,000,000, slice of 29",
+        header_of_b(1000000),
+        &legs,
+        &marks,
+        29,
+    );
+    show_write(
+        b"K 1,000,001, no legs",
+        header_of_b(1000001),
+        &legs[..0],
+        &marks,
+        29,
+    );
+    let no_tail = [4u32, 1, 4, 1, 3, 4, 0, 2, 3, 2, 3, 9, 1, 2, 1];
+    show_write(
+        b"Leg 0 from 4, eight marks",
+        header_of_b(8),
+        &no_tail,
+        &marks[..8],
+        29,
+    );
+}
+
+// Legs that are judged one by one, and too many counted stops.
+fn unwritten_legs() {
+    let marks = [0u8; 9];
+    let slow_first = [0u32, 1, 65536, 9, 3, 4, 0, 2, 3, 2, 3, 9, 1, 2, 1];
+    show_write(
+        b"Leg 0 of 65,536 minutes, leg 1 from 9",
+        header_of_b(8),
+        &slow_first,
+        &marks,
+        29,
+    );
+    let no_tail = [9u32, 1, 65536, 1, 3, 4, 0, 2, 3, 2, 3, 9, 1, 2, 1];
+    show_write(
+        b"Leg 0 from 9, of 65,536 minutes",
+        header_of_b(8),
+        &no_tail,
+        &marks,
+        29,
+    );
+    let row = Header {
+        nodes: 11,
+        arcs: 10,
+        source: 0,
+        target: 10,
+        limit: 99,
+    };
+    let in_a_row = [
+        0u32,
+        1,
+        1,
+        1,
+        2,
+        1,
+        2,
+        3,
+        1,
+        3,
+        4,
+        1,
+        4,
+        5,
+        1,
+        5,
+        6,
+        1,
+        6,
+        7,
+        1,
+        7,
+        8,
+        1,
+        8,
+        9,
+        1,
+        9,
+        10,
+        1,
+    ];
+    let must = [
+        0u8,
+        1,
+        1,
+        1,
+        1,
+        1,
+        1,
+        1,
+        1,
+        1,
+        0,
+        0,
+        0,
+        0,
+        0,
+        0,
+        0,
+        0,
+        0,
+        0,
+        0,
+    ];
+    show_write(b"Places 1 to 9 must, empty slice", row, &in_a_row, &must, 0);
+}
+
 fn main() {
     starred_rounds();
     starred_refusals();
@@ -340,4 +540,7 @@ fn main() {
     show_short_slip();
     views();
     empty_views();
+    written_sheets();
+    unwritten_sheets();
+    unwritten_legs();
 }

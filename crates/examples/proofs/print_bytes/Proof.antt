@@ -5,10 +5,10 @@ use Rattle.examples.proofs.print_bytes.Statement.{statement}
 use Rattle.examples.proofs.print_bytes.Tie as tie
 
 abbrev Inv-loop : tie.InvT-loop
-Inv-loop slip count i₀ i = Unit {0}
+Inv-loop bytes count i₀ i = Unit {0}
 
 abbrev μ-loop : tie.MeasureT-loop
-μ-loop slip count i₀ i = count - i
+μ-loop bytes count i₀ i = count - i
 
 loop-holds : tie.Need-loop-holds Inv-loop μ-loop
 loop-holds c = tt

@@ -1,15 +1,15 @@
--- `is_slip_kept` ends: the measure is what is left of the slip. Assumes nothing.
+-- `is_kept` ends: the measure is what is left of the bytes. Assumes nothing.
 use borrow.Author.Needs.{needs}
 use Prim.Native.Nat.{_-_}
 use lib.ListN.{length}
-use Rattle.examples.proofs.is_slip_kept.Statement.{statement}
-use Rattle.examples.proofs.is_slip_kept.Tie as tie
+use Rattle.examples.proofs.is_kept.Statement.{statement}
+use Rattle.examples.proofs.is_kept.Tie as tie
 
 abbrev Inv-loop : tie.InvT-loop
-Inv-loop slip from i₀ i = Unit {0}
+Inv-loop bytes from i₀ i = Unit {0}
 
 abbrev μ-loop : tie.MeasureT-loop
-μ-loop slip from i₀ i = length slip - i
+μ-loop bytes from i₀ i = length bytes - i
 
 loop-holds : tie.Need-loop-holds Inv-loop μ-loop
 loop-holds c = tt
@@ -32,8 +32,8 @@ loop-again c = tt
 returns-2 : tie.Need-returns-2 Inv-loop μ-loop
 returns-2 c = tt
 
-pub is-slip-kept-spec : {M : Type 1} → statement M
-is-slip-kept-spec =
+pub is-kept-spec : {M : Type 1} → statement M
+is-kept-spec =
     tie.close
     (tie.spec
     Inv-loop
