@@ -1,6 +1,6 @@
 -- What the writer gives and leaves as one number and a slice, from what it answers. Assumes nothing.
 use Prim.Native.Nat.{ℕ, _+_, _*_, _≤_}
-use mathlib.Core.Path.{_≡_, ap, _∙_}
+use mathlib.Core.Path.{_≡_, ap}
 use mathlib.Core.List.{List}
 use native.Mathlib.Omega.{arith}
 use Rattle.sheet.specs.declared.Header.{Header}
@@ -8,7 +8,7 @@ use Rattle.sheet.specs.Answer.{Wrote}
 use Rattle.sheet.specs.Draft.{draftOf}
 use Rattle.sheet.specs.Writer.{sheetWritten}
 use Rattle.sheet.proofs.SizeLaws.{written-size}
-use Rattle.planner.specs.Write.{WrittenNumber, oneNumber, writtenNumber}
+use Rattle.planner.specs.Write.{oneNumber, writtenNumber}
 
 module _ (h : Header) (arcs marks out : List ℕ) (w : Wrote) (e : w ≡ sheetWritten (draftOf h arcs marks) out) where
   pub write-number : {number : ℕ} → number ≡ 65536 * w .number + w .length

@@ -6,7 +6,6 @@ ghost use lib.ListN.{length};
 ghost use lib.Dec.{leb};
 ghost use Rattle.lists.specs.Lists.{front, Put};
 ghost use Rattle.varint.specs.Answer.{small};
-ghost use Rattle.varint.specs.Varint.{writeNumbers};
 ghost use Rattle.sheet.specs.Draft.{draftOf, draftSheet, headerNumbers, sheetBytes};
 ghost use Rattle.sheet.specs.Writer.{headerFault, arcFault, arcsFault, marksFault, requiredFault, draftFault, sheetWritten};
 ghost use Rattle.sheet_required.specs.Held.{Held};
