@@ -1,6 +1,6 @@
-/* A small planner: it draws up the sheet B, asks for the pass, for the reason of each struck item
- * and for a check of each slip, and says in words what came back. Then it shuts a place and a leg,
- * so that the round is refused, and last hands over a sheet that is cut short.
+/* A small planner: it has the sheet B written, asks for the pass, for the reason of each struck
+ * item and for a check of each slip, and says in words what came back. Then it shuts a place and a
+ * leg, so that the round is refused, and last hands over a sheet that is cut short.
  *
  *     cc host/planner.c target/staticlib/libplanner.a -o target/planner && target/planner
  */
@@ -14,25 +14,12 @@
 #define START 0u
 #define FINISH 3u
 
-struct leg { uint32_t tail, head, minutes; };
-
-static const struct leg legs[LEGS] = {
-    { 0, 1, 4 }, { 1, 3, 4 }, { 0, 2, 3 }, { 2, 3, 9 }, { 1, 2, 1 }
-};
+/* tail, head and minutes of each leg */
+static const uint32_t legs[3 * LEGS] = { 0, 1, 4,  1, 3, 4,  0, 2, 3,  2, 3, 9,  1, 2, 1 };
 
 static uint8_t sheet[WAYS_SHEET_BYTES];
 static uint8_t work[WAYS_WORK_BYTES];
 static uint8_t slip[WAYS_SLIP_BYTES];
-
-/* Writes a number in groups of seven bits and returns where the next one goes. */
-static uint8_t *put(uint8_t *at, uint32_t value) {
-    while (value >= 0x80u) {
-        *at++ = (uint8_t)(value | 0x80u);
-        value >>= 7;
-    }
-    *at++ = (uint8_t)value;
-    return at;
-}
 
 /* Reads a number that the library wrote, so well formed, and moves on behind it. */
 static uint32_t get(const uint8_t **at) {
@@ -45,32 +32,21 @@ static uint32_t get(const uint8_t **at) {
     return value | (uint32_t)*(*at)++ << shift;
 }
 
-/* Draws up the sheet with this limit and these marks, and returns its length. */
+/* Has the sheet written with this limit and these marks, and returns its length. The numbers are
+ * good and there is room, so the call is not refused. */
 static size_t draw_up(uint32_t limit, const uint8_t marks[ITEMS]) {
-    uint8_t *at = sheet;
-    at = put(at, PLACES);
-    at = put(at, LEGS);
-    at = put(at, START);
-    at = put(at, FINISH);
-    at = put(at, limit);
-    for (uint32_t i = 0; i < LEGS; i++) {
-        at = put(at, legs[i].tail);
-        at = put(at, legs[i].head);
-        at = put(at, legs[i].minutes);
-    }
-    for (uint32_t i = 0; i < ITEMS; i++) {
-        at = put(at, marks[i]);
-    }
-    return (size_t)(at - sheet);
+    uint32_t number = ways_write(PLACES, LEGS, START, FINISH, limit, legs, 3 * LEGS, marks, ITEMS,
+                                 sheet, sizeof sheet);
+    return WAYS_LENGTH(number);
 }
 
 static void print_item(uint32_t item) {
     if (item < PLACES) {
         printf("place %u", (unsigned)item);
     } else {
-        const struct leg *leg = &legs[item - PLACES];
-        printf("the leg from %u to %u of %u minutes", (unsigned)leg->tail, (unsigned)leg->head,
-               (unsigned)leg->minutes);
+        const uint32_t *leg = &legs[3 * (item - PLACES)];
+        printf("the leg from %u to %u of %u minutes", (unsigned)leg[0], (unsigned)leg[1],
+               (unsigned)leg[2]);
     }
 }
 

@@ -1,4 +1,4 @@
-/* The ways pass, for a planner in C: three functions over bytes that the caller lends.
+/* The ways pass, for a planner in C: four functions over memory that the caller lends.
  *
  * A sheet is a map of places and one-way legs with minutes, a start, a finish, a limit in minutes,
  * and a mark for each item: open, must or shut. Items are numbered once: the n places 0 to n - 1,
@@ -24,15 +24,16 @@
  * What holds of every function:
  *
  *   - It takes any bytes and any lengths, always returns, and reads and writes nothing outside what
- *     it is lent. What it is lent need not be aligned, nor hold anything in particular.
- *   - A pointer must be good for as many bytes as its length says, and not null even where that is
- *     0. The lent parts must not overlap.
+ *     it is lent. What it is lent need not hold anything in particular. Bytes need not be aligned;
+ *     the legs of ways_write have to be aligned as uint32_t is.
+ *   - A pointer must be good for as many bytes as its length says, or as many numbers as its count
+ *     says, and not null even where that is 0. The lent parts must not overlap.
  *   - It uses what it is lent and nothing else: no heap, no file, no errno, no locale, and nothing
  *     is kept between calls. So calls with different buffers may run at the same time.
  *   - It needs up to WAYS_STACK_BYTES of its thread's stack.
- *   - The number returned is 65,536 times the refusal, plus the slip's length, or for ways_check
- *     plus 1 for yes. A refused call gives length 0, or no. WAYS_REFUSAL and WAYS_LENGTH take the
- *     number apart.
+ *   - The number returned is 65,536 times the refusal, plus the length of the slip or sheet that
+ *     was written, or for ways_check plus 1 for yes. A refused call gives length 0, or no.
+ *     WAYS_REFUSAL and WAYS_LENGTH take the number apart.
  */
 #ifndef WAYS_H
 #define WAYS_H
@@ -45,8 +46,8 @@ extern "C" {
 #endif
 
 /* The version of this header and of the answers it describes: 100 times the first number plus the
- * second, so 101 is 1.1. CHANGELOG.md says what each version changed. */
-#define WAYS_VERSION 101
+ * second, so 102 is 1.2. CHANGELOG.md says what each version changed. */
+#define WAYS_VERSION 102
 
 #define WAYS_WORK_BYTES 65536u /* what the work must have */
 #define WAYS_SLIP_BYTES 1200u  /* what the slip of ways_pass and ways_reason must have */
@@ -81,12 +82,20 @@ enum ways_verdict {
 };
 
 /* Why a call was refused. They are judged in this order, 3 to 11 number by number as the sheet is
- * read: a number is read to its end, then judged, and then the next is begun. */
+ * read: a number is read to its end, then judged, and then the next is begun. ways_write judges the
+ * same numbers in the same order, but that 3 comes behind 8. Which call draws which:
+ *
+ *   ways_pass     1 to 14
+ *   ways_reason   1 to 16
+ *   ways_check    1, 3 to 14, 17, 18
+ *   ways_write    5 to 8, then 3, then 9 to 11, 13, 19
+ */
 enum ways_refusal {
     WAYS_REFUSED_NOT = 0,          /* the call finished */
     WAYS_REFUSED_WORK_SHORT = 1,   /* the work has under 65,536 bytes */
     WAYS_REFUSED_SLIP_SHORT = 2,   /* pass, reason: the slip has under 1,200 bytes */
-    WAYS_REFUSED_SHEET_ENDS = 3,   /* the sheet ends before its last number does */
+    WAYS_REFUSED_SHEET_ENDS = 3,   /* the sheet ends before its last number does; write: a list is
+                                    * shorter or longer than n and m say */
     WAYS_REFUSED_NUMBER = 4,       /* over four groups, or a needless last group of zero */
     WAYS_REFUSED_PLACES = 5,       /* n is not 2 to 64 */
     WAYS_REFUSED_LEGS = 6,         /* m is over 512 */
@@ -103,13 +112,14 @@ enum ways_refusal {
     WAYS_REFUSED_NOT_STRUCK = 16,  /* reason: the pass on this sheet does not strike the item */
     WAYS_REFUSED_SLIP_FORM = 17,   /* check: the slip ends early, has a badly written number, a
                                     * first number not 1 to 4, or bytes left over */
-    WAYS_REFUSED_SLIP_LISTS = 18   /* check: an unknown item; goals or reasons not strictly
+    WAYS_REFUSED_SLIP_LISTS = 18,  /* check: an unknown item; goals or reasons not strictly
                                     * ascending; a goal count not 0, 1, 1 to 8, 1 for first numbers
                                     * 1, 2, 3, 4; or a leg among the goals of a 3 */
+    WAYS_REFUSED_SHEET_SHORT = 19  /* write: the slice is shorter than the sheet */
 };
 
-/* The parts of the number that a call returns: an enum ways_refusal, and the slip's length or, of
- * ways_check, WAYS_YES or WAYS_NO. */
+/* The parts of the number that a call returns: an enum ways_refusal, and the length of the slip or
+ * sheet that was written or, of ways_check, WAYS_YES or WAYS_NO. */
 #define WAYS_REFUSAL(number) ((uint32_t)(number) >> 16)
 #define WAYS_LENGTH(number) ((uint32_t)(number) & 0xffffu)
 
@@ -165,6 +175,31 @@ uint32_t ways_reason(const uint8_t *sheet, size_t sheet_len, uint8_t *work, size
  */
 uint32_t ways_check(const uint8_t *sheet, size_t sheet_len, uint8_t *work, size_t work_len,
                     const uint8_t *slip, size_t slip_len);
+
+/* Writes a sheet from its numbers, each in its shortest form. The other calls read what it wrote as
+ * the same numbers; and the numbers of a sheet that they take, written by it, give that sheet's
+ * bytes again.
+ *
+ * The numbers are judged as a sheet's are, in the sheet's order: n (5), m (6), start and finish
+ * (7), limit (8); then that the lists have the lengths that n and m say (3); then leg by leg the
+ * tail and head (9) and the minutes (10), so that the minutes of one leg are judged before the tail
+ * of the next; then the marks (11), the counted stops (13), and last the room (19). Any numbers may
+ * be handed over: one too great for a sheet draws its own 5 to 10. No other refusal is drawn.
+ *
+ * Returns 65,536 times the refusal, or the sheet's length, at least 7 and at most WAYS_SHEET_BYTES.
+ *
+ *   n, m, start, finish, limit   are the five numbers that the sheet begins with.
+ *   legs    The tail, head and minutes of each leg, one after the other: legs_count counts numbers,
+ *           not legs and not bytes, and has to be 3 times m. Aligned as uint32_t is. Only read.
+ *   marks   The marks of the n places, then of the m legs, a byte each: marks_len has to be n + m.
+ *           Only read.
+ *   sheet   Refused: as it was. Finished: the sheet is at its front, the bytes behind it are as
+ *           they were. What it holds before has no effect. It need not be longer than the sheet
+ *           that is written; WAYS_SHEET_BYTES are always enough.
+ */
+uint32_t ways_write(uint32_t n, uint32_t m, uint32_t start, uint32_t finish, uint32_t limit,
+                    const uint32_t *legs, size_t legs_count, const uint8_t *marks,
+                    size_t marks_len, uint8_t *sheet, size_t sheet_len);
 
 #ifdef __cplusplus
 }

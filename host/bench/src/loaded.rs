@@ -15,14 +15,16 @@ const NOW: c_int = 2;
 
 type Call = unsafe extern "C" fn(*const u8, usize, *mut u8, usize, *mut u8, usize) -> u32;
 type CallItem = unsafe extern "C" fn(*const u8, usize, *mut u8, usize, *mut u8, usize, u32) -> u32;
+type CallDraft = unsafe extern "C" fn(u32, u32, u32, u32, u32, *const u32, usize, *const u8, usize, *mut u8, usize) -> u32;
 type CallSlip = unsafe extern "C" fn(*const u8, usize, *mut u8, usize, *const u8, usize) -> u32;
 
-/// The three functions of the library.
+/// The functions of the library; one made before the writer has none.
 #[derive(Clone, Copy)]
 pub struct Loaded {
     pass: Call,
     reason: CallItem,
     check: CallSlip,
+    write: Option<CallDraft>,
 }
 
 impl Loaded {
@@ -41,17 +43,18 @@ impl Loaded {
         let loaded = unsafe { dlopen(name.as_ptr(), NOW) };
         assert!(!loaded.is_null(), "{} cannot be loaded", object.display());
         std::fs::remove_file(&object).expect("the shared object can be removed");
-        let find = |name: &str| {
+        let look = |name: &str| {
             let name = CString::new(name).expect("no zero byte");
             let found = unsafe { dlsym(loaded, name.as_ptr()) };
-            assert!(!found.is_null(), "{name:?} is not in {}", archive.display());
-            found
+            (!found.is_null()).then_some(found)
         };
+        let find = |name: &str| look(name).unwrap_or_else(|| panic!("{name} is not in {}", archive.display()));
         unsafe {
             Loaded {
                 pass: std::mem::transmute::<*mut c_void, Call>(find("ways_pass")),
                 reason: std::mem::transmute::<*mut c_void, CallItem>(find("ways_reason")),
                 check: std::mem::transmute::<*mut c_void, CallSlip>(find("ways_check")),
+                write: look("ways_write").map(|found| std::mem::transmute::<*mut c_void, CallDraft>(found)),
             }
         }
     }
@@ -66,5 +69,15 @@ impl Loaded {
 
     pub fn check(&self, sheet: &[u8], work: &mut [u8], slip: &[u8]) -> u32 {
         unsafe { (self.check)(sheet.as_ptr(), sheet.len(), work.as_mut_ptr(), work.len(), slip.as_ptr(), slip.len()) }
+    }
+
+    pub fn can_write(&self) -> bool {
+        self.write.is_some()
+    }
+
+    pub fn write(&self, front: [u32; 5], arcs: &[u32], marks: &[u8], sheet: &mut [u8]) -> u32 {
+        let [n, m, start, finish, limit] = front;
+        let write = self.write.expect("a library that writes");
+        unsafe { write(n, m, start, finish, limit, arcs.as_ptr(), arcs.len(), marks.as_ptr(), marks.len(), sheet.as_mut_ptr(), sheet.len()) }
     }
 }

@@ -23,6 +23,7 @@ const SAMPLE: Duration = Duration::from_micros(30);
 struct Lent {
     work: Vec<u8>,
     slip: Vec<u8>,
+    written: Vec<u8>,
 }
 
 /// Who is timed.
@@ -33,6 +34,10 @@ enum Timed {
 }
 
 impl Timed {
+    fn can(&self, operation: &Operation) -> bool {
+        !matches!((self, operation), (Timed::Loaded(loaded), Operation::Write(_)) if !loaded.can_write())
+    }
+
     fn run(&self, standard: &Standard, lent: &mut Lent) -> u32 {
         let (sheet, work, slip) = (&standard.sheet, &mut lent.work, &mut lent.slip);
         match (self, &standard.operation) {
@@ -45,6 +50,9 @@ impl Timed {
             (Timed::Loaded(loaded), Operation::Pass) => loaded.pass(sheet, work, slip),
             (Timed::Loaded(loaded), Operation::Reason(item)) => loaded.reason(sheet, work, slip, *item),
             (Timed::Loaded(loaded), Operation::Check(slip)) => loaded.check(sheet, work, slip),
+            (Timed::Library, Operation::Write(draft)) => ways::numbers::write(draft.front, &draft.arcs, &draft.marks, &mut lent.written),
+            (Timed::Reference, Operation::Write(draft)) => reference::write_sheet(draft.front, &draft.arcs, &draft.marks, &mut lent.written),
+            (Timed::Loaded(loaded), Operation::Write(draft)) => loaded.write(draft.front, &draft.arcs, &draft.marks, &mut lent.written),
         }
     }
 }
@@ -73,13 +81,14 @@ fn median(mut samples: Vec<f64>) -> f64 {
     samples[samples.len() / 2]
 }
 
-/// All give the same number and the same slip; a time for anything else would be worth nothing.
+/// All give the same number, slip and sheet; a time for anything else would be worth nothing.
 fn compare(all: &[Timed], standard: &Standard, lent: &mut Lent) {
-    let answers: Vec<(u32, Vec<u8>)> = all
+    let answers: Vec<(u32, Vec<u8>, Vec<u8>)> = all
         .iter()
         .map(|timed| {
             lent.slip.fill(0);
-            (timed.run(standard, lent), lent.slip.clone())
+            lent.written.fill(0);
+            (timed.run(standard, lent), lent.slip.clone(), lent.written.clone())
         })
         .collect();
     assert!(answers.iter().all(|answer| *answer == answers[0]), "{}", standard.name);
@@ -102,7 +111,7 @@ fn time(all: &[Timed], standard: &Standard, lent: &mut Lent) -> Vec<f64> {
 }
 
 fn main() {
-    let mut lent = Lent { work: vec![0; ways::WORK_BYTES], slip: vec![0; ways::SLIP_BYTES] };
+    let mut lent = Lent { work: vec![0; ways::WORK_BYTES], slip: vec![0; ways::SLIP_BYTES], written: vec![0; ways::SHEET_BYTES] };
     let mut all = vec![Timed::Library, Timed::Reference];
     let before = std::env::var_os("WAYS_BEFORE");
     if let Some(archive) = &before {
@@ -113,7 +122,8 @@ fn main() {
     println!("| operation | sheet | library, µs | reference, µs | ratio |{head}");
     println!("|---|---|---:|---:|---:|{rule}");
     for standard in standard() {
-        let times = time(&all, &standard, &mut lent);
+        let able = all.iter().take_while(|timed| timed.can(&standard.operation)).count();
+        let times = time(&all[..able], &standard, &mut lent);
         print!("| {} | {} | {:.1} | {:.1} | {:.2} |", standard.operation.name(), standard.name, times[0], times[1], times[0] / times[1]);
         if let Some(before) = times.get(2) {
             print!(" {before:.1} | {:.2} |", times[0] / before);

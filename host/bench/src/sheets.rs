@@ -1,12 +1,13 @@
 //! The standard sheets.
 
-use cases::{sheet_b, Random, Sheet, Slip, FORBIDDEN, MANDATORY, OPEN};
+use cases::{sheet_b, Draft, Random, Sheet, Slip, FORBIDDEN, MANDATORY, OPEN};
 use reference::{least, SLIP_BYTES, WORK_BYTES};
 
 pub enum Operation {
     Pass,
     Reason(u32),
     Check(Vec<u8>),
+    Write(Draft),
 }
 
 impl Operation {
@@ -15,6 +16,7 @@ impl Operation {
             Operation::Pass => "pass",
             Operation::Reason(_) => "reason",
             Operation::Check(_) => "check",
+            Operation::Write(_) => "write",
         }
     }
 }
@@ -146,6 +148,18 @@ fn check(name: &str, sheet: &Sheet, slip: Vec<u8>) -> Standard {
     Standard { name: name.to_string(), sheet: sheet.bytes(), operation: Operation::Check(slip), refusal: 0 }
 }
 
+/// The sheet is what comes out.
+fn write(name: &str, sheet: &Sheet) -> Standard {
+    let bytes = sheet.bytes();
+    Standard { name: format!("{name}, {} bytes", bytes.len()), sheet: bytes, operation: Operation::Write(Draft::of(sheet)), refusal: 0 }
+}
+
+/// The longest sheet that there is.
+fn longest() -> Sheet {
+    let arcs: Vec<[u32; 3]> = (0..ARCS as u32).map(|arc| [arc % 64, (arc + 1) % 64, 65_535]).collect();
+    Sheet::new(NODES as u32, 0, NODES as u32 - 1, 1_000_000, &arcs)
+}
+
 pub fn standard() -> Vec<Standard> {
     let plain = full(1);
     let free = plain.with_limit(least_length(&plain) * 2);
@@ -184,5 +198,7 @@ pub fn standard() -> Vec<Standard> {
         check("B within 7: verdict 1, no reasons", &b.with_limit(7), vec![1, 0, 0]),
         check("the slip of verdict 1 above", &all, pass_slip(&all)),
         check("the slip of the first verdict 3 above", &blamed, pass_slip(&blamed)),
+        write("B", &b),
+        write("64 nodes, 512 arcs of 65,535 minutes", &longest()),
     ]
 }

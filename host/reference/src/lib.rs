@@ -1,4 +1,4 @@
-//! A second implementation of pass, reason and check, written from document 01, to hold the proved library to. Points that document 01 leaves open are settled as
+//! A second implementation of pass, reason, check and the writer, written from document 01 and request 2.1, to hold the proved library to. Points that document 01 leaves open are settled as
 //! docs/DECISIONS.md has them, so a fault there would be in both.
 //!
 //! It shares no code with the library. What differs: the library relaxes rows of lengths by sweeps over the arcs up to the limit, and puts rows back where an opening is
@@ -7,7 +7,8 @@
 //! - lengths come from Dijkstra's algorithm over linked lists of arcs, the frontier being a set of nodes held in one 64-bit mark; they are whole 64-bit numbers
 //!   that know no limit;
 //! - the list of reasons never undoes anything. With the lengths *from* each goal and *to* each goal, the pairs that an opening would give follow from the lengths
-//!   at the opened item: only an item that stays open is put into the graph, and the lengths are mended from there.
+//!   at the opened item: only an item that stays open is put into the graph, and the lengths are mended from there;
+//! - the writer judges nothing: it writes the numbers and has the reader judge the bytes.
 //!
 //! What is alike: both fill a table over sets of goals and the goal reached last (Algorithm 1 of source document 002). The reference's own tests do without it: they
 //! try every walk of small sheets, and every order of the goals on large ones.
@@ -22,7 +23,7 @@ mod sheet;
 mod slip;
 mod tour;
 
-pub use operations::{check, pass, reason, SLIP_BYTES, WORK_BYTES};
-pub use sheet::Sheet;
+pub use operations::{check, pass, reason, write_sheet, SLIP_BYTES, WORK_BYTES};
+pub use sheet::{Arc, Sheet};
 pub use slip::program;
 pub use tour::least;

@@ -6,6 +6,9 @@ const LONGEST: u32 = 4;
 const FOLLOWS: u8 = 0x80;
 const GROUP: u8 = 0x7f;
 
+/// The greatest number that can be written.
+pub const GREATEST: u32 = (1 << (7 * LONGEST)) - 1;
+
 pub const ENDS: Refusal = 3;
 pub const BADLY_WRITTEN: Refusal = 4;
 
@@ -53,4 +56,15 @@ pub fn write(mut value: usize, bytes: &mut [u8]) -> usize {
     }
     bytes[at] = value as u8;
     at + 1
+}
+
+/// The bytes of numbers in a row.
+pub fn write_all(values: &[u32]) -> Vec<u8> {
+    let mut bytes = Vec::new();
+    for &value in values {
+        let mut written = [0; LONGEST as usize];
+        let length = write(value as usize, &mut written);
+        bytes.extend(&written[..length]);
+    }
+    bytes
 }

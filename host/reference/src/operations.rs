@@ -1,7 +1,8 @@
-//! Pass, reason and check over lent bytes, as the planner calls them. Each gives 65,536 times the refusal number plus the slip's length, or for check plus 1 for yes.
+//! Pass, reason, check and the writer over lent bytes, as the planner calls them. Each gives 65,536 times the refusal number plus the length of what it wrote, or for
+//! check plus 1 for yes.
 
 use crate::graph::Graph;
-use crate::number::write;
+use crate::number::{write, write_all, ENDS, GREATEST};
 use crate::reasons::reasons;
 use crate::sheet::{Sheet, FORBIDDEN, MANDATORY, OPEN};
 use crate::slip::Slip;
@@ -22,6 +23,7 @@ const LAST_THAT_KEEPS_WORK: Refusal = 13;
 const NO_ITEM: Refusal = 15;
 const NOT_PRUNED: Refusal = 16;
 const SLIP_ITEMS: Refusal = 18;
+const SHEET_SHORT: Refusal = 19;
 
 const NO_GOAL: usize = 1;
 const ONE_GOAL: usize = 2;
@@ -41,6 +43,37 @@ pub fn reason(sheet: &[u8], work: &mut [u8], slip: &mut [u8], item: u32) -> u32 
 pub fn check(sheet: &[u8], work: &mut [u8], slip: &[u8]) -> u32 {
     let answer = lent(work, None).and_then(|()| Sheet::read(sheet)).and_then(|sheet| check_on(&sheet, slip));
     outcome(answer.map(usize::from), work)
+}
+
+/// Writes a sheet from its five first numbers, the arcs' numbers and the marks. Nothing is judged here but the lists' lengths: the numbers are written, each cut to
+/// the greatest that can be, which is over every bound, and the reader judges what was written.
+pub fn write_sheet(front: [u32; 5], arcs: &[u32], marks: &[u8], sheet: &mut [u8]) -> u32 {
+    match drafted(front, arcs, marks) {
+        Err(refusal) => refusal * LENGTHS,
+        Ok(bytes) if bytes.len() > sheet.len() => SHEET_SHORT * LENGTHS,
+        Ok(bytes) => {
+            sheet[..bytes.len()].copy_from_slice(&bytes);
+            bytes.len() as u32
+        }
+    }
+}
+
+fn drafted(front: [u32; 5], arcs: &[u32], marks: &[u8]) -> Result<Vec<u8>, Refusal> {
+    let numbers = |list: &[u32]| list.iter().map(|&value| value.min(GREATEST)).collect::<Vec<_>>();
+    let mut bytes = write_all(&numbers(&front));
+    // a sheet has marks behind its front, so a good front ends too early
+    match Sheet::read(&bytes) {
+        Err(ENDS) => {}
+        Err(refusal) => return Err(refusal),
+        Ok(_) => unreachable!("a sheet without marks"),
+    }
+    let [nodes, arc_count, ..] = front.map(|number| number as usize);
+    if arcs.len() != 3 * arc_count || marks.len() != nodes + arc_count {
+        return Err(ENDS);
+    }
+    bytes.extend(write_all(&numbers(arcs)));
+    bytes.extend(write_all(&marks.iter().map(|&mark| mark.into()).collect::<Vec<u32>>()));
+    Sheet::read(&bytes).map(|_| bytes)
 }
 
 fn lent(work: &[u8], slip: Option<&[u8]>) -> Result<(), Refusal> {

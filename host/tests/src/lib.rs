@@ -3,10 +3,12 @@
 mod desk;
 mod guard;
 mod stack;
+mod writing;
 
 pub use desk::{Call, Desk};
 pub use guard::Guarded;
 pub use stack::stack_used;
+pub use writing::WritingDesk;
 
 /// What a refusal number is multiplied by.
 pub const REFUSED: u32 = 65_536;

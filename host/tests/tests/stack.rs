@@ -1,8 +1,8 @@
 //! The stack that a call needs: every operation on the largest sheets, in a thread whose stack has just the bytes that `ways.h` states.
 
-use cases::{Random, Sheet, Slip, FORBIDDEN, MANDATORY, OPEN};
+use cases::{Draft, Random, Sheet, Slip, FORBIDDEN, MANDATORY, OPEN};
 use tests::{defined, stack_used, REFUSED};
-use ways::{numbers, SLIP_BYTES, WORK_BYTES};
+use ways::{numbers, SHEET_BYTES, SLIP_BYTES, WORK_BYTES};
 
 const NODES: usize = 64;
 const ARCS: usize = 512;
@@ -77,8 +77,8 @@ fn sheets() -> Vec<(Sheet, u8)> {
 /// The stack that calls used, and the calls made, by operation.
 #[derive(Default)]
 struct Used {
-    most: [usize; 3],
-    calls: [usize; 3],
+    most: [usize; 4],
+    calls: [usize; 4],
 }
 
 impl Used {
@@ -107,17 +107,20 @@ fn the_largest_sheets() {
             let length = used.call(1, &mut || numbers::reason(&bytes, &mut work, &mut slip, item as u32)) as usize;
             written.push(slip[..length].to_vec());
         }
+        let (draft, mut again) = (Draft::of(&sheet), vec![0; SHEET_BYTES]);
+        let length = used.call(3, &mut || numbers::write(draft.front, &draft.arcs, &draft.marks, &mut again)) as usize;
+        assert_eq!(again[..length], bytes);
         for slip in written.iter().filter(|slip| Slip::written(slip).is_some()) {
             assert_eq!(used.call(2, &mut || numbers::check(&bytes, &mut work, slip)), 1);
         }
     }
     let nothing = stack_used(defined("WAYS_STACK_BYTES"), &mut || {});
-    let [pass, reason, check] = used.most.map(|most| most - nothing);
+    let [pass, reason, check, write] = used.most.map(|most| most - nothing);
     println!(
-        "stack: {} bytes stated; most used by pass {pass}, reason {reason}, check {check}, and {nothing} by the thread itself",
+        "stack: {} bytes stated; most used by pass {pass}, reason {reason}, check {check}, write {write}, and {nothing} by the thread itself",
         defined("WAYS_STACK_BYTES")
     );
-    println!("stack: calls of pass, reason, check {:?}", used.calls);
+    println!("stack: calls of pass, reason, check, write {:?}", used.calls);
     assert!(used.calls.iter().all(|&calls| calls > 2), "{:?}", used.calls);
 }
 

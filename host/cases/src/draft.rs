@@ -1,0 +1,61 @@
+//! Drafts: the numbers that are to become a sheet, good and faulty in every way.
+
+use crate::random::Random;
+use crate::written::Sheet;
+
+/// The five first numbers, the arcs' numbers and the marks. The lists may have any length.
+#[derive(Clone, Debug, PartialEq, Eq)]
+pub struct Draft {
+    pub front: [u32; 5],
+    pub arcs: Vec<u32>,
+    pub marks: Vec<u8>,
+}
+
+impl Draft {
+    pub fn of(sheet: &Sheet) -> Draft {
+        Draft {
+            front: [sheet.nodes, sheet.arcs.len() as u32, sheet.source, sheet.target, sheet.limit],
+            arcs: sheet.arcs.concat(),
+            marks: sheet.marks.iter().map(|&mark| mark as u8).collect(),
+        }
+    }
+}
+
+/// Numbers at every bound and one over, and such as no sheet can hold.
+const ODD: [u32; 20] =
+    [0, 1, 2, 63, 64, 65, 127, 128, 511, 512, 513, 65_535, 65_536, 1_000_000, 1_000_001, (1 << 28) - 1, 1 << 28, 1 << 31, u32::MAX - 1, u32::MAX];
+
+/// The draft with one fault or a few, or none that matters: a number exchanged for an odd one, a list shorter or longer.
+pub fn spoiled(draft: &Draft, random: &mut Random) -> Draft {
+    let mut spoiled = draft.clone();
+    for _ in 0..random.between(1, 3) {
+        spoil(&mut spoiled, random);
+    }
+    spoiled
+}
+
+fn spoil(draft: &mut Draft, random: &mut Random) {
+    let odd = random.pick(&ODD);
+    match random.below(6) {
+        0 => draft.front[random.below(5)] = odd,
+        1 | 2 if !draft.arcs.is_empty() => {
+            let at = random.below(draft.arcs.len());
+            let near = random.pick(&[odd, draft.front[0], draft.front[0].wrapping_sub(1), draft.arcs[at]]);
+            draft.arcs[at] = near;
+        }
+        3 if !draft.marks.is_empty() => {
+            let at = random.below(draft.marks.len());
+            draft.marks[at] = random.pick(&[0, 1, 2, 3, 127, 128, 255]);
+        }
+        4 => lengthen_or_cut(&mut draft.arcs, random.pick(&[1, 2, 3]), random),
+        _ => lengthen_or_cut(&mut draft.marks, 1, random),
+    }
+}
+
+fn lengthen_or_cut<T: Copy + Default>(list: &mut Vec<T>, by: usize, random: &mut Random) {
+    match random.below(4) {
+        0 => list.clear(),
+        1 => list.truncate(list.len().saturating_sub(by)),
+        _ => list.extend(vec![T::default(); by]),
+    }
+}
