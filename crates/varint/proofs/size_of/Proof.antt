@@ -1,5 +1,4 @@
 -- `size_of` counts what `writeNumber` writes, by the powers of 128. Assumes nothing.
-use native.Mathlib.Omega.{arith}
 use Rattle.varint.proofs.SizeLaws.{size-one, size-two, size-three, size-four}
 use Rattle.varint.proofs.size_of.Statement.{statement}
 use Rattle.varint.proofs.size_of.Tie as tie
