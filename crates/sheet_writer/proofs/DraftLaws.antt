@@ -145,10 +145,13 @@ module _ (h : Header) (arcs marks : List ℕ) where
     bytes-are =
         rw (header-back h arcs marks (held .0), flat-arcs arcs threes)
         (rows-append numbers-rows (headerNumbers h) (arcs ++ marks)
-        ∙ ap (λ (bs : List ℕ). writeNumbers (headerNumbers h) ++ bs) (rows-append numbers-rows arcs marks ∙ ap (λ (bs : List ℕ). writeNumbers arcs ++ bs) (marks-bytes marks (parts .3)))
+        ∙ ap (λ (bs : List ℕ). writeNumbers (headerNumbers h) ++ bs)
+        (rows-append numbers-rows arcs marks ∙ ap (λ (bs : List ℕ). writeNumbers arcs ++ bs) (marks-bytes marks (parts .3)))
         ∙ sym (append-assoc (writeNumbers (headerNumbers h)) (writeNumbers arcs) marks))
 
-    pub size-is : length (sheetBytes (draftSheet (draftOf h arcs marks))) ≡ length (writeNumbers (headerNumbers h)) + length (writeNumbers arcs) + length marks
+    pub size-is :
+        length (sheetBytes (draftSheet (draftOf h arcs marks)))
+        ≡ length (writeNumbers (headerNumbers h)) + length (writeNumbers arcs) + length marks
     size-is = ap length bytes-are ∙ simp length-append
 
     -- four bytes for a number, one for a mark

@@ -62,7 +62,9 @@ module _ (h : Header) (arcs marks : List ℕ) where
   unfolding written writeOn wrote fitted
   write-within out = go (eqb (draftFault (draftOf h arcs marks)) 0) refl
     where
-      room : draftFault (draftOf h arcs marks) ≡ 0 → (t : Bool) → Small (wrote (pick t (finished (sheetBytes (draftSheet (draftOf h arcs marks)))) (refused 19)) out)
+      room :
+          draftFault (draftOf h arcs marks) ≡ 0 → (t : Bool)
+          → Small (wrote (pick t (finished (sheetBytes (draftSheet (draftOf h arcs marks)))) (refused 19)) out)
       room z true = (omega arith, size-few h arcs marks z)
       room z false = (omega arith, omega arith)
 
