@@ -50,10 +50,13 @@ module _ (h : Header) (arcs marks : List ℕ) where
     unfolding sheetBytes draftNumbers
     bytes-are =
         ap writeNumbers (sheet-numbers (draftOf h arcs marks) (f .sized)) ∙ rows-append numbers-rows (headerNumbers h) (arcs ++ marks)
-        ∙ ap (λ (bs : List ℕ). writeNumbers (headerNumbers h) ++ bs) (rows-append numbers-rows arcs marks ∙ ap (λ (bs : List ℕ). writeNumbers arcs ++ bs) (marks-bytes marks (f .marks)))
+        ∙ ap (λ (bs : List ℕ). writeNumbers (headerNumbers h) ++ bs)
+        (rows-append numbers-rows arcs marks ∙ ap (λ (bs : List ℕ). writeNumbers arcs ++ bs) (marks-bytes marks (f .marks)))
         ∙ sym (append-assoc (writeNumbers (headerNumbers h)) (writeNumbers arcs) marks)
 
-    pub size-is : length (sheetBytes (draftSheet (draftOf h arcs marks))) ≡ length (writeNumbers (headerNumbers h)) + length (writeNumbers arcs) + length marks
+    pub size-is :
+        length (sheetBytes (draftSheet (draftOf h arcs marks)))
+        ≡ length (writeNumbers (headerNumbers h)) + length (writeNumbers arcs) + length marks
     size-is = ap length bytes-are ∙ simp length-append
 
     pub size-few : length (sheetBytes (draftSheet (draftOf h arcs marks))) ≤ 3144

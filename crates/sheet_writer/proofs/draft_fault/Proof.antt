@@ -2,7 +2,7 @@
 use mathlib.Core.Path.{_≡_, sym, _∙_}
 use native.Mathlib.Omega.{arith}
 use borrow.Author.Needs.{needs}
-use Rattle.sheet.specs.Writer.{headerFault}
+use Rattle.sheet.specs.Writer.{headerFault, arcsFault}
 use Rattle.sheet.proofs.FaultLaws.{Bounded, header-bounded}
 use Rattle.sheet_writer.proofs.FaultLaws.{in-header, other-arcs, other-marks, in-arcs, in-marks, in-required}
 use Rattle.sheet_writer.proofs.draft_fault.Statement.{statement}
@@ -14,6 +14,10 @@ header-fine p = sym (p .before .header-fault .ensures) ∙ p .if1 .left
 
 bounded : (p : tie.Else1) → Bounded (p .before .before .before .before .args .header)
 bounded p = header-bounded (p .before .before .before .before .args .header) (header-fine p)
+
+-- and neither have the arcs
+arcs-fine : (p : tie.Else4) → let s = p .before .before .before .before .before .before .before .before .before .before .before in arcsFault (s .args .header .nodes) (s .args .arcs .now) ≡ 0
+arcs-fine p = sym (p .before .arcs-fault .ensures) ∙ p .if4 .left
 
 header-fault-requires : tie.Need-header-fault-requires
 header-fault-requires c κs = search needs
@@ -41,22 +45,24 @@ arcs-fault-requires c κs = search needs
 
 returns-4 : tie.Need-returns-4
 returns-4 c =
-    in-arcs _ _ _ (header-fine (c .before .before .before .before .before .before .before)) (c .before .before .before .before .before .if2 .left) (c .before .before .before .if3 .left) (c .before .arcs-fault .ensures) (c .if4 .taken)
+    let p = c .before .before .before in
+    in-arcs _ _ _ (header-fine (p .before .before .before .before)) (p .before .before .if2 .left) (p .if3 .left) (c .before .arcs-fault .ensures) (c .if4 .taken)
 
 marks-fault-requires : tie.Need-marks-fault-requires
 marks-fault-requires c κs = search needs
 
 returns-5 : tie.Need-returns-5
 returns-5 c =
-    in-marks _ _ _ (header-fine (c .before .before .before .before .before .before .before .before .before)) (c .before .before .before .before .before .before .before .if2 .left) (c .before .before .before .before .before .if3 .left) (sym (c .before .before .before .arcs-fault .ensures) ∙ c .before .before .if4 .left)
-    (c .before .marks-fault .ensures) (c .if5 .taken)
+    let p = c .before .before .before .before .before in
+    in-marks _ _ _ (header-fine (p .before .before .before .before)) (p .before .before .if2 .left) (p .if3 .left) (arcs-fine (c .before .before)) (c .before .marks-fault .ensures) (c .if5 .taken)
 
 required-fault-requires : tie.Need-required-fault-requires
-required-fault-requires c κs = ((c .before .before .before .before .before .before .before .if2 .left, c .before .before .before .before .before .if3 .left), bounded (c .before .before .before .before .before .before .before .before .before) .nodes)
+required-fault-requires c κs = let p = c .before .before .before .before .before in ((p .before .before .if2 .left, p .if3 .left), bounded (p .before .before .before .before) .nodes)
 
 returns-6 : tie.Need-returns-6
 returns-6 c =
-    in-required _ _ _ (header-fine (c .before .before .before .before .before .before .before .before .before .before)) (c .before .before .before .before .before .before .before .before .if2 .left) (c .before .before .before .before .before .before .if3 .left) (sym (c .before .before .before .before .arcs-fault .ensures) ∙ c .before .before .before .if4 .left)
+    let p = c .before .before .before .before .before .before in
+    in-required _ _ _ (header-fine (p .before .before .before .before)) (p .before .before .if2 .left) (p .if3 .left) (arcs-fine (c .before .before .before))
     (sym (c .before .before .marks-fault .ensures) ∙ c .before .if5 .left) (c .required-fault .ensures)
 
 pub draft-fault-spec : {M : Type 1} → statement M

@@ -7,27 +7,59 @@ returns : tie.Need-returns
 returns c = few-nodes _ (c .if1 .taken)
 
 returns-2 : tie.Need-returns-2
-returns-2 c = many-nodes _ (c .before .before .if1 .left) (c .if2 .taken)
+returns-2 c =
+    let c1 = c .before .before in
+    many-nodes _ (c1 .if1 .left) (c .if2 .taken)
 
 returns-3 : tie.Need-returns-3
-returns-3 c = many-arcs _ (c .before .before .before .before .if1 .left) (c .before .before .if2 .left) (c .if3 .taken)
+returns-3 c =
+    let c2 = c .before .before in
+    let c1 = c2 .before .before in
+    many-arcs _ (c1 .if1 .left) (c2 .if2 .left) (c .if3 .taken)
 
 returns-4 : tie.Need-returns-4
-returns-4 c = no-source _ (c .before .before .before .before .before .before .if1 .left) (c .before .before .before .before .if2 .left) (c .before .before .if3 .left) (c .if4 .taken)
+returns-4 c =
+    let c3 = c .before .before in
+    let c2 = c3 .before .before in
+    let c1 = c2 .before .before in
+    no-source _ (c1 .if1 .left) (c2 .if2 .left) (c3 .if3 .left) (c .if4 .taken)
 
 returns-5 : tie.Need-returns-5
-returns-5 c = no-target _ (c .before .before .before .before .before .before .before .before .if1 .left) (c .before .before .before .before .before .before .if2 .left) (c .before .before .before .before .if3 .left) (c .before .before .if4 .left) (c .if5 .taken)
+returns-5 c =
+    let c4 = c .before .before in
+    let c3 = c4 .before .before in
+    let c2 = c3 .before .before in
+    let c1 = c2 .before .before in
+    no-target _ (c1 .if1 .left) (c2 .if2 .left) (c3 .if3 .left) (c4 .if4 .left) (c .if5 .taken)
 
 returns-6 : tie.Need-returns-6
-returns-6 c = same-target _ (c .before .before .before .before .before .before .before .before .before .before .if1 .left) (c .before .before .before .before .before .before .before .before .if2 .left) (c .before .before .before .before .before .before .if3 .left) (c .before .before .before .before .if4 .left) (c .before .before .if5 .left) (c .if6 .taken)
+returns-6 c =
+    let c5 = c .before .before in
+    let c4 = c5 .before .before in
+    let c3 = c4 .before .before in
+    let c2 = c3 .before .before in
+    let c1 = c2 .before .before in
+    same-target _ (c1 .if1 .left) (c2 .if2 .left) (c3 .if3 .left) (c4 .if4 .left) (c5 .if5 .left) (c .if6 .taken)
 
 returns-7 : tie.Need-returns-7
 returns-7 c =
-    high-limit _ (c .before .before .before .before .before .before .before .before .before .before .before .before .if1 .left) (c .before .before .before .before .before .before .before .before .before .before .if2 .left) (c .before .before .before .before .before .before .before .before .if3 .left) (c .before .before .before .before .before .before .if4 .left) (c .before .before .before .before .if5 .left) (c .before .before .if6 .left) (c .if7 .taken)
+    let c6 = c .before .before in
+    let c5 = c6 .before .before in
+    let c4 = c5 .before .before in
+    let c3 = c4 .before .before in
+    let c2 = c3 .before .before in
+    let c1 = c2 .before .before in
+    high-limit _ (c1 .if1 .left) (c2 .if2 .left) (c3 .if3 .left) (c4 .if4 .left) (c5 .if5 .left) (c6 .if6 .left) (c .if7 .taken)
 
 returns-8 : tie.Need-returns-8
 returns-8 c =
-    header-fine _ (c .before .before .before .before .before .before .before .before .before .before .before .before .if1 .left) (c .before .before .before .before .before .before .before .before .before .before .if2 .left) (c .before .before .before .before .before .before .before .before .if3 .left) (c .before .before .before .before .before .before .if4 .left) (c .before .before .before .before .if5 .left) (c .before .before .if6 .left) (c .if7 .left)
+    let c6 = c .before .before in
+    let c5 = c6 .before .before in
+    let c4 = c5 .before .before in
+    let c3 = c4 .before .before in
+    let c2 = c3 .before .before in
+    let c1 = c2 .before .before in
+    header-fine _ (c1 .if1 .left) (c2 .if2 .left) (c3 .if3 .left) (c4 .if4 .left) (c5 .if5 .left) (c6 .if6 .left) (c .if7 .left)
 
 pub header-fault-spec : {M : Type 1} → statement M
 header-fault-spec =

@@ -4,6 +4,7 @@ use mathlib.Core.Path.{ap, _∙_}
 use mathlib.Core.List.{_++_}
 use native.Mathlib.Omega.{arith}
 use Rattle.lists.proofs.FrontLaws.{Room, room-before, first-fits, put-within, put-room, put-end, put-on}
+use Rattle.lists.specs.Lists.{Put}
 use Rattle.varint.specs.Answer.{small}
 use Rattle.varint.specs.Varint.{writeNumbers}
 use Rattle.sheet.specs.Draft.{headerNumbers}
@@ -19,6 +20,11 @@ marks-room s = record { fits = rw (bytes-are (s .args .header) (s .args .arcs .n
 arcs-room : (s : tie.Start) → Room (writeNumbers (headerNumbers (s .args .header))) (writeNumbers (s .args .arcs .now)) (s .args .sheet .now)
 arcs-room s = room-before (marks-room s)
 
+-- the five numbers stand in front
+header-put : (p : tie.After-slice-known2) → let s = p .before .before .before .before .before .before .before .before .before in let q = p .before .before .put-numbers in
+    Put (writeNumbers (headerNumbers (s .args .header))) (s .args .sheet .now) (q .last .0) (q .result)
+header-put p = put-as _ (p .before .before .before .before .before .header-numbers .ensures) (p .before .before .put-numbers .ensures)
+
 header-numbers-requires : tie.Need-header-numbers-requires
 header-numbers-requires c κs = small-header _ _ _ (c .before .before .before .pre .0)
 
@@ -31,43 +37,47 @@ put-numbers-requires c κs =
     (ap small e ∙ small-header _ _ _ (c .before .before .before .before .before .before .pre .0), rw e (first-fits (arcs-room (c .before .before .before .before .before .before))))
 
 sub-put-numbers : tie.Need-sub-put-numbers
-sub-put-numbers c = put-within (arcs-room (c .before .before .before .before .before .before .before .before .before)) (put-as _ (c .before .before .before .before .before .header-numbers .ensures) (c .before .before .put-numbers .ensures))
+sub-put-numbers c = put-within (arcs-room (c .before .before .before .before .before .before .before .before .before)) (header-put c)
 
 part-put-numbers-start : tie.Need-part-put-numbers-start
-part-put-numbers-start c = put-within (arcs-room (c .before .before .before .before .before .before .before .before .before)) (put-as _ (c .before .before .before .before .before .header-numbers .ensures) (c .before .before .put-numbers .ensures))
+part-put-numbers-start c = put-within (arcs-room (c .before .before .before .before .before .before .before .before .before)) (header-put c)
 
 part-put-numbers-end : tie.Need-part-put-numbers-end
 part-put-numbers-end c = search needs
 
 put-numbers-requires-2 : tie.Need-put-numbers-requires-2
 put-numbers-requires-2 c κs =
-    (small-arcs _ _ _ (c .before .before .before .before .before .before .before .before .before .before .pre .0), put-room (arcs-room (c .before .before .before .before .before .before .before .before .before .before)) (put-as _ (c .before .before .before .before .before .before .header-numbers .ensures) (c .before .before .before .put-numbers .ensures)))
+    let s = c .before .before .before .before .before .before .before .before .before .before in
+    (small-arcs _ _ _ (s .pre .0), put-room (arcs-room s) (header-put (c .before)))
 
 add-end : tie.Need-add-end
 add-end c =
-    omega (arith, put-end (arcs-room (c .before .before .before .before .before .before .before .before .before .before .before .before .before)) (put-as _ (c .before .before .before .before .before .before .before .before .before .header-numbers .ensures) (c .before .before .before .before .before .before .put-numbers .ensures)) (c .before .before .put-numbers2 .ensures))
+    let s = c .before .before .before .before .before .before .before .before .before .before .before .before .before in
+    omega (arith, put-end (arcs-room s) (header-put (c .before .before .before .before)) (c .before .before .put-numbers2 .ensures))
 
 sub-put-bytes : tie.Need-sub-put-bytes
 sub-put-bytes c =
-    put-within (marks-room (c .before .before .before .before .before .before .before .before .before .before .before .before .before))
-    (put-on (arcs-room (c .before .before .before .before .before .before .before .before .before .before .before .before .before)) (put-as _ (c .before .before .before .before .before .before .before .before .before .header-numbers .ensures) (c .before .before .before .before .before .before .put-numbers .ensures)) (c .before .before .put-numbers2 .ensures))
+    let s = c .before .before .before .before .before .before .before .before .before .before .before .before .before in
+    put-within (marks-room s) (put-on (arcs-room s) (header-put (c .before .before .before .before)) (c .before .before .put-numbers2 .ensures))
 
 part-put-bytes-start : tie.Need-part-put-bytes-start
 part-put-bytes-start c =
-    put-within (marks-room (c .before .before .before .before .before .before .before .before .before .before .before .before .before))
-    (put-on (arcs-room (c .before .before .before .before .before .before .before .before .before .before .before .before .before)) (put-as _ (c .before .before .before .before .before .before .before .before .before .header-numbers .ensures) (c .before .before .before .before .before .before .put-numbers .ensures)) (c .before .before .put-numbers2 .ensures))
+    let s = c .before .before .before .before .before .before .before .before .before .before .before .before .before in
+    put-within (marks-room s) (put-on (arcs-room s) (header-put (c .before .before .before .before)) (c .before .before .put-numbers2 .ensures))
 
 part-put-bytes-end : tie.Need-part-put-bytes-end
 part-put-bytes-end c = search needs
 
 put-bytes-requires : tie.Need-put-bytes-requires
 put-bytes-requires c κs =
-    put-room (marks-room (c .before .before .before .before .before .before .before .before .before .before .before .before .before .before))
-    (put-on (arcs-room (c .before .before .before .before .before .before .before .before .before .before .before .before .before .before)) (put-as _ (c .before .before .before .before .before .before .before .before .before .before .header-numbers .ensures) (c .before .before .before .before .before .before .before .put-numbers .ensures)) (c .before .before .before .put-numbers2 .ensures))
+    let s = c .before .before .before .before .before .before .before .before .before .before .before .before .before .before in
+    put-room (marks-room s) (put-on (arcs-room s) (header-put (c .before .before .before .before .before)) (c .before .before .before .put-numbers2 .ensures))
 
 add-result : tie.Need-add-result
 add-result c =
-    omega (arith, put-end (marks-room (c .before .before .before .before .before .before .before .before .before .before .before .before .before .before .before .before .before)) (put-on (arcs-room (c .before .before .before .before .before .before .before .before .before .before .before .before .before .before .before .before .before)) (put-as _ (c .before .before .before .before .before .before .before .before .before .before .before .before .before .header-numbers .ensures) (c .before .before .before .before .before .before .before .before .before .before .put-numbers .ensures)) (c .before .before .before .before .before .before .put-numbers2 .ensures)) (c .before .before .put-bytes .ensures))
+    let s = c .before .before .before .before .before .before .before .before .before .before .before .before .before .before .before .before .before in
+    let w = put-on (arcs-room s) (header-put (c .before .before .before .before .before .before .before .before)) (c .before .before .before .before .before .before .put-numbers2 .ensures) in
+    omega (arith, put-end (marks-room s) w (c .before .before .put-bytes .ensures))
 
 same-length : tie.Need-same-length
 same-length c = search needs
@@ -75,10 +85,8 @@ same-length c = search needs
 returns : tie.Need-returns
 returns c =
     let s = c .before .before .before .before .before .before .before .before .before .before .before .before .before .before .before .before .before in
-    rw (bytes-are (s .args .header) (s .args .arcs .now) (s .args .marks .now) (s .pre .0))
-    (put-on (marks-room s)
-    (put-on (arcs-room s) (put-as _ (c .before .before .before .before .before .before .before .before .before .before .before .before .before .header-numbers .ensures) (c .before .before .before .before .before .before .before .before .before .before .put-numbers .ensures)) (c .before .before .before .before .before .before .put-numbers2 .ensures))
-    (c .before .before .put-bytes .ensures))
+    let w = put-on (arcs-room s) (header-put (c .before .before .before .before .before .before .before .before)) (c .before .before .before .before .before .before .put-numbers2 .ensures) in
+    rw (bytes-are (s .args .header) (s .args .arcs .now) (s .args .marks .now) (s .pre .0)) (put-on (marks-room s) w (c .before .before .put-bytes .ensures))
 
 pub put-sheet-spec : {M : Type 1} → statement M
 put-sheet-spec =

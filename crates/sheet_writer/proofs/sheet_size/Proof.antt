@@ -29,13 +29,19 @@ header-size : (p : tie.After-sizes2) → p .before .sizes .result ≡ length (wr
 header-size p = p .before .sizes .ensures ∙ ap (λ (xs : List ℕ). length (writeNumbers xs)) (p .before .before .before .header-numbers .ensures)
 
 add-result : tie.Need-add-result
-add-result c = omega (arith, header-size c, c .sizes2 .ensures, size-is _ _ _ (c .before .before .before .before .before .before .pre), size-few _ _ _ (c .before .before .before .before .before .before .pre))
+add-result c =
+    let z = c .before .before .before .before .before .before .pre in
+    omega (arith, header-size c, c .sizes2 .ensures, size-is _ _ _ z, size-few _ _ _ z)
 
 add-result-2 : tie.Need-add-result-2
-add-result-2 c = omega (arith, header-size c, c .sizes2 .ensures, size-is _ _ _ (c .before .before .before .before .before .before .pre), size-few _ _ _ (c .before .before .before .before .before .before .pre))
+add-result-2 c =
+    let z = c .before .before .before .before .before .before .pre in
+    omega (arith, header-size c, c .sizes2 .ensures, size-is _ _ _ z, size-few _ _ _ z)
 
 returns : tie.Need-returns
-returns c = omega (arith, header-size c, c .sizes2 .ensures, size-is _ _ _ (c .before .before .before .before .before .before .pre))
+returns c =
+    let z = c .before .before .before .before .before .before .pre in
+    omega (arith, header-size c, c .sizes2 .ensures, size-is _ _ _ z)
 
 pub sheet-size-spec : {M : Type 1} → statement M
 sheet-size-spec =

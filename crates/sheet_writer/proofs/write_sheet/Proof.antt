@@ -32,14 +32,17 @@ returns-2 c = short-written _ _ _ (fine (c .before .before .before .before)) _ (
 
 put-sheet-requires : tie.Need-put-sheet-requires
 put-sheet-requires c κs =
-    (fine (c .before .before .before .before .before), room _ _ _ (fine (c .before .before .before .before .before)) (c .before .before .before .before .before .before .before .before .before .before .args .sheet .now) (c .before .before .before .sheet-size .ensures) (c .before .before .has-room .ensures) (not-false _ (c .before .if2 .left)))
+    let p = c .before in
+    let z = fine (p .before .before .before .before) in
+    (z, room _ _ _ z (p .before .before .before .before .before .before .before .before .before .args .sheet .now) (p .before .before .sheet-size .ensures) (p .before .has-room .ensures) (not-false _ (p .if2 .left)))
 
 same-length-2 : tie.Need-same-length-2
 same-length-2 c = search needs
 
 returns-3 : tie.Need-returns-3
 returns-3 c =
-    sheet-written _ _ _ (fine (c .before .before .before .before .before .before .before .before)) _ (c .before .before .before .before .before .before .sheet-size .ensures) (c .before .before .before .before .before .has-room .ensures) (not-false _ (c .before .before .before .before .if2 .left))
+    let p = c .before .before .before .before in
+    sheet-written _ _ _ (fine (p .before .before .before .before)) _ (p .before .before .sheet-size .ensures) (p .before .has-room .ensures) (not-false _ (p .if2 .left))
     (c .before .before .put-sheet .ensures)
 
 pub write-sheet-spec : {M : Type 1} → statement M
