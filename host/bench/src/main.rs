@@ -110,6 +110,12 @@ fn time(all: &[Timed], standard: &Standard, lent: &mut Lent) -> Vec<f64> {
     samples.into_iter().map(median).collect()
 }
 
+/// A time with one decimal, or with three where it is under a microsecond.
+fn shown(micros: f64) -> String {
+    let decimals = if micros < 1.0 { 3 } else { 1 };
+    format!("{micros:.decimals$}")
+}
+
 fn main() {
     let mut lent = Lent { work: vec![0; ways::WORK_BYTES], slip: vec![0; ways::SLIP_BYTES], written: vec![0; ways::SHEET_BYTES] };
     let mut all = vec![Timed::Library, Timed::Reference];
@@ -124,9 +130,9 @@ fn main() {
     for standard in standard() {
         let able = all.iter().take_while(|timed| timed.can(&standard.operation)).count();
         let times = time(&all[..able], &standard, &mut lent);
-        print!("| {} | {} | {:.1} | {:.1} | {:.2} |", standard.operation.name(), standard.name, times[0], times[1], times[0] / times[1]);
+        print!("| {} | {} | {} | {} | {:.2} |", standard.operation.name(), standard.name, shown(times[0]), shown(times[1]), times[0] / times[1]);
         if let Some(before) = times.get(2) {
-            print!(" {before:.1} | {:.2} |", times[0] / before);
+            print!(" {} | {:.2} |", shown(*before), times[0] / before);
         }
         println!();
     }
