@@ -18,9 +18,9 @@ use Rattle.walks.specs.Graph.{itemCount}
 use Rattle.walks.specs.Flat.{graphOf}
 use Rattle.sheet.specs.declared.Header.{Header}
 use Rattle.sheet.specs.Sheet.{Sheet, sheetOf}
-use Rattle.sheet_required.specs.Held.{Whole}
+use Rattle.sheet_required.specs.Whole.{Whole}
 use Rattle.slip_reader.specs.Form.{slipFrom}
-use Rattle.sheet_required.proofs.HeldLaws.{items-are}
+use Rattle.sheet_required.proofs.WholeLaws.{items-are}
 use Rattle.check_rules.specs.Check.{goalCount, wellFormed}
 use Rattle.check_claim.specs.Claim.{Claimed}
 use Rattle.check_claim.proofs.ClosingLaws.{entry-member}
@@ -108,12 +108,12 @@ pub formed-asked : {h : Header} {arcs marks : List ℕ} (first : ℕ) (goals rea
     → wellFormed (sheetOf h arcs marks) (slipFrom first goals reasons) ≡ true → Claimed h arcs goals reasons
 formed-asked {h} {arcs} {marks} first goals reasons W w = record {
   sought = λ ms l. record {
-    proper = record { few = W .proper .few; marked = omega (arith, W .held .0, W .few, W .proper .few); tails = W .proper .tails; heads = W .proper .heads };
-    few = omega (arith, W .held .0, W .few);
+    proper = record { few = W .proper .few; marked = omega (arith, W .sized .0, W .few, W .proper .few); tails = W .proper .tails; heads = W .proper .heads };
+    few = omega (arith, W .sized .0, W .few);
     source = W .source;
     target = W .target;
     limit = W .limit;
-    fit = record { eight = few-counted first (length goals) (P .counted); below = λ i l. omega (arith, known i l, W .held .0); distinct = ascends-distinct goals (P .goals-rise) };
+    fit = record { eight = few-counted first (length goals) (P .counted); below = λ i l. omega (arith, known i l, W .sized .0); distinct = ascends-distinct goals (P .goals-rise) };
   };
   items = λ j m. omega (arith, ltb-true j _ (every-at (λ i. ltb i (itemCount (graphOf (h .nodes) arcs))) reasons j (P .reasons-known) m), items-are W, W .few, W .proper .few);
 }

@@ -8,7 +8,7 @@ ghost use lib.Dec.{eqb};
 ghost use Rattle.lists.specs.Lists.{member, every};
 ghost use Rattle.walks.specs.Graph.{itemCount};
 ghost use Rattle.sheet.specs.Sheet.{Sheet, isForbidden, required, sheetOf};
-ghost use Rattle.sheet_required.specs.Held.{Whole};
+ghost use Rattle.sheet_required.specs.Whole.{Whole};
 ghost use Rattle.slip_reader.specs.Form.{slipFrom};
 ghost use Rattle.check_rules.specs.Check.{goalCount, wellFormed, isGoal};
 ghost use Rattle.check_claim.specs.Claim.{Closing};

@@ -8,7 +8,7 @@ ghost use lib.ListN.{length};
 ghost use Rattle.varint.specs.Varint.{after};
 ghost use Rattle.sheet.specs.Slip.{readSlip};
 ghost use Rattle.sheet.specs.Sheet.{sheetOf};
-ghost use Rattle.sheet_required.specs.Held.{Whole};
+ghost use Rattle.sheet_required.specs.Whole.{Whole};
 ghost use Rattle.slip_reader.specs.Form.{SlipCounts};
 ghost use Rattle.slip_reader.specs.declared.SlipRead.the-variants.{Got};
 ghost use Rattle.check_rules.specs.Check.{judgedOn, checkOn, checked};

@@ -35,7 +35,7 @@ module _ {h : Header} {arcs marks rows : List ℕ} (R : Rows h arcs marks rows) 
   unfolding fitsSheet fits isForbidden
   item-fits i x b e =
       let G = graphOf (h .nodes) arcs in
-      let z = through-one G (closedIn marks) i (h .source) (h .target) (item-at (netOf (h .nodes) arcs marks) i (omega (arith, b, R .whole .held .0))) in
+      let z = through-one G (closedIn marks) i (h .source) (h .target) (item-at (netOf (h .nodes) arcs marks) i (omega (arith, b, R .whole .sized .0))) in
       rw (e, z) (held-within (h .limit) _ small)
 
   -- the entries that are read

@@ -8,7 +8,7 @@ use lib.Seq.{take-at, drop-at}
 use Rattle.sheet.specs.declared.Header.{Header}
 use Rattle.rows.specs.Net.{netOf}
 use Rattle.rows.specs.Rows.{RowIs, RowTo}
-use Rattle.sheet_required.specs.Held.{Whole}
+use Rattle.sheet_required.specs.Whole.{Whole}
 use Rattle.item_fits.specs.Rows.{Rows}
 
 module _ (a rows : List ℕ) (l : length a ≡ 64) (m : length rows ≡ 128) where

@@ -6,7 +6,7 @@ use lib.ListN.{length, drop}
 use Rattle.rows.specs.Net.{netOf}
 use Rattle.rows.specs.Rows.{RowIs, RowTo}
 use Rattle.sheet.specs.declared.Header.{Header}
-use Rattle.sheet_required.specs.Held.{Whole}
+use Rattle.sheet_required.specs.Whole.{Whole}
 
 -- the least lengths from the source, and behind them those to the target, where they keep to the limit
 pub record Rows (h : Header) (arcs marks rows : List ℕ) : Type 0 where

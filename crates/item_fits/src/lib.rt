@@ -10,7 +10,7 @@ ghost use Rattle.rows.specs.Net.{netOf};
 ghost use Rattle.goal_table.specs.Table.{Rowed};
 ghost use Rattle.pass_rules.specs.Verdict.{fitsSheet};
 ghost use Rattle.sheet.specs.Sheet.{sheetOf};
-ghost use Rattle.sheet_required.specs.Held.{Whole};
+ghost use Rattle.sheet_required.specs.Whole.{Whole};
 ghost use Rattle.item_fits.specs.Rows.{Rows};
 ghost use Rattle.item_fits.specs.Asked.{QueryOf, Sought};
 use lengths::Query;

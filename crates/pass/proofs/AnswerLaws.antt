@@ -9,9 +9,9 @@ use Rattle.sheet.specs.declared.Header.{Header}
 use Rattle.pass_verdict.specs.declared.Verdict.{Verdict}
 use Rattle.varint.proofs.WriteLaws.{small-below}
 use Rattle.varint.specs.Answer.{small}
-use Rattle.sheet_required.proofs.HeldLaws.{items-are, goals-at, listed-front}
+use Rattle.sheet_required.proofs.WholeLaws.{items-are, goals-at, listed-front}
 use Rattle.pass_verdict.specs.VerdictFound.{VerdictFound}
-use Rattle.sheet_required.specs.Held.{Whole}
+use Rattle.sheet_required.specs.Whole.{Whole}
 use Rattle.lists.proofs.AscendLaws.{ascends-distinct}
 use Rattle.lists.specs.Lists.{Put}
 use Rattle.sheet.proofs.SlipLaws.{Small, slip-size, numbers-below}
@@ -55,7 +55,7 @@ module _ {h : Header} {arcs marks : List ℕ} (W : Whole h arcs marks) {v : Verd
           whole = W;
           fit = record {
             eight = G .few;
-            below = λ i l. omega (arith, goals-at (itemCount (S .graph)) i (verdict S .goals) (G .items) l, items-are W, W .held .0);
+            below = λ i l. omega (arith, goals-at (itemCount (S .graph)) i (verdict S .goals) (G .items) l, items-are W, W .sized .0);
             distinct = ascends-distinct (verdict S .goals) (G .rising);
           };
           unmet = refused-goals S refused;

@@ -8,7 +8,7 @@ use Rattle.goal_table.specs.Table.{GoalsFit}
 use Rattle.pass_rules.specs.Verdict.{fitsSheet}
 use Rattle.sheet.specs.declared.Header.{Header}
 use Rattle.sheet.specs.Sheet.{sheetOf}
-use Rattle.sheet_required.specs.Held.{Whole}
+use Rattle.sheet_required.specs.Whole.{Whole}
 
 -- goals on a taken sheet that no walk within the limit meets
 pub record Blamed (h : Header) (arcs marks goals : List ℕ) : Type 0 where

@@ -11,7 +11,7 @@ ghost use Rattle.pass_rules.specs.Verdict.{reasonsFor, passSlip, verdict as ver
 ghost use Rattle.sheet.specs.Answer.{wrote};
 ghost use Rattle.pass_rules.specs.Pass.{passOn, passed};
 ghost use Rattle.sheet.specs.Sheet.{sheetOf};
-ghost use Rattle.sheet_required.specs.Held.{Whole};
+ghost use Rattle.sheet_required.specs.Whole.{Whole};
 ghost use Rattle.item_fits.specs.Asked.{Sought};
 ghost use Rattle.pass.specs.Blamed.{Blamed};
 use item_fits::TWO_ROWS;

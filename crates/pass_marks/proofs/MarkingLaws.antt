@@ -14,13 +14,13 @@ use Rattle.sheet.specs.declared.Header.{Header}
 use Rattle.lists.proofs.FrontLaws.{push-at, length-front}
 use Rattle.lists.proofs.TestLaws.{true-or-false, true-or}
 use Rattle.lists.specs.Lists.{front, pick}
-use Rattle.sheet_required.specs.Held.{Ends, Whole}
+use Rattle.sheet_required.specs.Whole.{Ends, Whole}
 use Rattle.sheet.proofs.MarkLaws.{is-open}
 use Rattle.sheet.specs.Sheet.{Sheet, markOf, isOpen, allArcs, endsMandatory, sheetOf}
 use Rattle.pass_rules.proofs.SlipOfPass.{new-marks-size, new-marks-at}
 use Rattle.pass_rules.proofs.VerdictLaws.{other-mark}
 use Rattle.pass_rules.specs.Verdict.{fitsSheet, isPruned, isForced, newMark, newMarks}
-use Rattle.sheet_required.proofs.HeldLaws.{items-are}
+use Rattle.sheet_required.proofs.WholeLaws.{items-are}
 use Rattle.pass_marks.specs.ForcedNodes.{ForcedNodes}
 
 module _ (S : Sheet) (ends : List ℕ) (E : Ends S ends) (few : S .graph .nodes ≤ 64) (s : S .source < S .graph .nodes) (t : S .target < S .graph .nodes) where

@@ -6,7 +6,7 @@ ghost use lib.ListN.{length};
 ghost use Rattle.lists.specs.Lists.{front, Put};
 ghost use Rattle.pass_rules.specs.Verdict.{newMark, newMarks};
 ghost use Rattle.sheet.specs.Sheet.{sheetOf};
-ghost use Rattle.sheet_required.specs.Held.{Whole};
+ghost use Rattle.sheet_required.specs.Whole.{Whole};
 ghost use Rattle.item_fits.specs.Rows.{Rows};
 ghost use Rattle.pass_marks.specs.ForcedNodes.{ForcedNodes};
 use sheet::Header;

@@ -13,8 +13,8 @@ use Rattle.item_fits.proofs.AskedLaws.{whole-sought}
 use Rattle.item_fits.specs.Asked.{Sought}
 use Rattle.lists.proofs.AscendLaws.{ascends-distinct, keep-none, keep-first, span-member}
 use Rattle.lists.proofs.MemberLaws.{keep-member, member-head}
-use Rattle.sheet_required.proofs.HeldLaws.{items-are, goals-at}
-use Rattle.sheet_required.specs.Held.{Whole}
+use Rattle.sheet_required.proofs.WholeLaws.{items-are, goals-at}
+use Rattle.sheet_required.specs.Whole.{Whole}
 use Rattle.rows.specs.Net.{netOf}
 use Rattle.sheet.proofs.MarkLaws.{required-ascend, required-below, is-mandatory}
 use Rattle.sheet.specs.Sheet.{Sheet, isMandatory, allItems, required, markOf, sheetOf}

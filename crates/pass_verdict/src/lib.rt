@@ -6,7 +6,7 @@ ghost use Prim.Native.Nat.{_+_, _≤_, _<_};
 ghost use lib.ListN.{length, getD};
 ghost use Rattle.sheet.specs.Sheet.{isMandatory, sheetOf};
 ghost use Rattle.pass_rules.specs.Verdict.{fitsSheet, unmet};
-ghost use Rattle.sheet_required.specs.Held.{Whole};
+ghost use Rattle.sheet_required.specs.Whole.{Whole};
 ghost use Rattle.item_fits.specs.Rows.{Rows};
 ghost use Rattle.pass_verdict.specs.VerdictFound.{VerdictFound};
 use sheet::Header;

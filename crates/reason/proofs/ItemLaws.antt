@@ -9,8 +9,8 @@ use lib.Dec.{eqb}
 use borrow.Author.Tests.{eq-eqb, ne-eqb, lt-ltb, le-ltb}
 use Rattle.sheet.specs.declared.Header.{Header}
 use Rattle.varint.specs.Answer.{small}
-use Rattle.sheet_required.proofs.HeldLaws.{items-are, listed-front}
-use Rattle.sheet_required.specs.Held.{Whole}
+use Rattle.sheet_required.proofs.WholeLaws.{items-are, listed-front}
+use Rattle.sheet_required.specs.Whole.{Whole}
 use Rattle.lists.proofs.TestLaws.{and-true, not-true}
 use Rattle.lists.specs.Lists.{member, Put}
 use Rattle.pass.proofs.AnswerLaws.{slip-writes}
@@ -69,7 +69,7 @@ module _ {h : Header} {arcs marks : List ℕ} (W : Whole h arcs marks) (i : ℕ)
     blamed p = record { whole = W; fit = record { eight = omega arith; below = below; distinct = (refl, tt) }; unmet = pruned-unmet S i p }
       where
         below : (j : ℕ) → j < 1 → getD (i ∷ []) j 0 < h .nodes + length arcs / 3
-        below zero q = omega (arith, l, W .held .0)
+        below zero q = omega (arith, l, W .sized .0)
         below (suc j) q = absurd (omega arith)
 
     -- the slip that is written is the item's

@@ -6,7 +6,7 @@ ghost use lib.ListN.{length};
 ghost use Rattle.sheet.specs.Answer.{answerOf, wrote};
 ghost use Rattle.rows.specs.Rows.{scratchNumbers};
 ghost use Rattle.sheet.specs.Sheet.{sheetOf};
-ghost use Rattle.sheet_required.specs.Held.{Whole};
+ghost use Rattle.sheet_required.specs.Whole.{Whole};
 ghost use Rattle.reason_rules.specs.Reason.{prunes, reasonIn, reasonOn, reasoned};
 use sheet::Header;
 use sheet_reader::SheetRead;

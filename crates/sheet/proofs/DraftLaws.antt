@@ -16,10 +16,9 @@ use Rattle.varint.specs.Answer.{small}
 use Rattle.walks.proofs.FlatLaws.{arcs-many}
 use Rattle.walks.specs.Flat.{arcsOf}
 use Rattle.sheet.proofs.BackLaws.{faulted, then-last, then-more, header-back, arcs-back, marks-back}
-use Rattle.sheet.proofs.FaultLaws.{Sized}
 use Rattle.sheet.specs.Draft.{headerNumbers, Draft, draftNumbers, draftSheet}
 use Rattle.sheet.specs.Reader.{readMarks, readArcs, readSheet, complete, taken}
-use Rattle.sheet.specs.Sheet.{required}
+use Rattle.sheet.specs.Sheet.{required, Sized}
 use Rattle.sheet.specs.Writer.{fault, firstOf, headerFault, sizeFault, arcsFault, marksFault, requiredFault, draftFault}
 
 -- the first of the faults, where one of them is none
@@ -29,7 +28,7 @@ regroup (suc h) s a m r e = refl
 regroup zero s zero m r e = rw e
 regroup zero s (suc a) m r e = rw e
 
-pub sized-fault : (d : Draft) → Sized d → sizeFault d ≡ 0
+pub sized-fault : (d : Draft) → Sized (d .header) (d .arcs) (d .marks) → sizeFault d ≡ 0
 unfolding sizeFault fault
 sized-fault d s = rw (eq-eqb _ _ (s .0), eq-eqb _ _ (s .1))
 
@@ -41,7 +40,7 @@ complete-back d = go (leb (length (required (draftSheet d))) 8)
     go true = refl
     go false = refl
 
-module _ (d : Draft) (s : Sized d) (B : Below 268435456 (draftNumbers d)) where
+module _ (d : Draft) (s : Sized (d .header) (d .arcs) (d .marks)) (B : Below 268435456 (draftNumbers d)) where
   parts : Below 268435456 (headerNumbers (d .header)) × Below 268435456 (d .arcs ++ d .marks)
   unfolding draftNumbers
   parts = below-parts 268435456 (headerNumbers (d .header)) (d .arcs ++ d .marks) B

@@ -1,6 +1,6 @@
 -- A draft without a fault: its lists have the lengths that its header says, and each of its numbers can be written. And no fault is over 13. Assumes
 -- nothing.
-use Prim.Native.Nat.{ℕ, zero, suc, _+_, _-_, _*_, _≤_, _<_}
+use Prim.Native.Nat.{ℕ, zero, suc, _-_, _*_, _≤_, _<_}
 use mathlib.Core.Path.{_≡_, refl}
 use mathlib.Core.Bool.{Bool, true, false}
 use mathlib.Core.List.{List, [], _∷_}
@@ -13,12 +13,9 @@ use Rattle.lists.proofs.TestLaws.{and-true}
 use Rattle.varint.proofs.WriteLaws.{small-below}
 use Rattle.varint.specs.Answer.{small}
 use Rattle.sheet.specs.declared.Header.{Header}
+use Rattle.sheet.specs.Sheet.{Sized}
 use Rattle.sheet.specs.Draft.{headerNumbers, Draft, draftNumbers}
 use Rattle.sheet.specs.Writer.{fault, firstOf, headerFault, sizeFault, arcFault, arcsFault, marksFault, requiredFault, draftFault}
-
--- the lists have the lengths that the header says
-abbrev pub Sized : Draft → Type 0
-Sized d = (length (d .arcs) ≡ 3 * d .header .arcs) × (length (d .marks) ≡ d .header .nodes + d .header .arcs)
 
 pub first-none : (a b : ℕ) → firstOf a b ≡ 0 → (a ≡ 0) × (b ≡ 0)
 unfolding firstOf
@@ -82,7 +79,7 @@ marks-small (x ∷ xs) e =
 
 -- a draft without a fault
 pub record Faultless (d : Draft) : Type 0 where
-  pub sized : Sized d
+  pub sized : Sized (d .header) (d .arcs) (d .marks)
   pub header : Below 268435456 (headerNumbers (d .header))
   pub arcs : Below 268435456 (d .arcs)
   pub marks : marksFault (d .marks) ≡ 0

@@ -17,17 +17,17 @@ use Rattle.walks.specs.Flat.{flat}
 use Rattle.sheet.proofs.AgainLaws.{Numbers, made, sheet-again}
 use Rattle.sheet.proofs.BackLaws.{faulted}
 use Rattle.sheet.proofs.DraftLaws.{draft-back}
-use Rattle.sheet.proofs.FaultLaws.{Sized, faultless}
+use Rattle.sheet.proofs.FaultLaws.{faultless}
 use Rattle.sheet.proofs.SheetLaws.{Taken, taken-got, taken-good}
 use Rattle.sheet.specs.Answer.{finished, refused, fitted}
 use Rattle.sheet.specs.Draft.{headerNumbers, sheetNumbers, sheetBytes, Draft, sheetDraft, draftNumbers, draftSheet}
 use Rattle.sheet.specs.Good.{Good}
 use Rattle.sheet.specs.Reader.{taken}
-use Rattle.sheet.specs.Sheet.{Sheet, headerOf}
+use Rattle.sheet.specs.Sheet.{Sheet, headerOf, Sized}
 use Rattle.sheet.specs.Writer.{draftFault, writeOn}
 
 -- the numbers of the draft's sheet are the draft's
-pub sheet-numbers : (d : Draft) → Sized d → sheetNumbers (draftSheet d) ≡ draftNumbers d
+pub sheet-numbers : (d : Draft) → Sized (d .header) (d .arcs) (d .marks) → sheetNumbers (draftSheet d) ≡ draftNumbers d
 unfolding sheetNumbers headerOf headerNumbers draftNumbers
 sheet-numbers d s = rw (arcs-many (d .arcs) (d .header .arcs) (s .0), flat-arcs (d .arcs) (d .header .arcs) (s .0))
 
@@ -97,7 +97,7 @@ module _ (bs : List ℕ) (S : Sheet) (B : Below 256 bs) (e : taken bs ≡ got S 
   faultless-again : draftFault (sheetDraft S) ≡ 0
   unfolding sheetBytes sheetNumbers draftNumbers headerOf
   faultless-again =
-      let s : Sized (sheetDraft S) = (length-flat (S .graph .arcs), taken-good bs S is-taken .size) in
+      let s : Sized (headerOf S) (flat (S .graph .arcs)) (S .marks) = (length-flat (S .graph .arcs), taken-good bs S is-taken .size) in
       faulted-got (draftFault (sheetDraft S)) (got (draftSheet (sheetDraft S)) []) S []
       (sym (draft-back (sheetDraft S) s (numbers .small)) ∙ ap taken bytes-again ∙ e)
 

@@ -1,5 +1,6 @@
 -- A sheet as it is read: graph, source, target (document 01: start, finish), limit and marks.
-use Prim.Native.Nat.{ℕ}
+use Prim.Native.Nat.{ℕ, _+_, _*_}
+use mathlib.Core.Path.{_≡_}
 use mathlib.Core.Bool.{Bool, false, not, _&&_, _||_}
 use mathlib.Core.List.{List, [], _∷_}
 use lib.ListN.{getD, length}
@@ -25,6 +26,10 @@ headerOf S =
 abbrev pub sheetOf : Header → List ℕ → List ℕ → Sheet
 sheetOf h arcs marks =
     record { graph = graphOf (h .nodes) arcs; source = h .source; target = h .target; limit = h .limit; marks = marks }
+
+-- the lists have the lengths that the header says
+abbrev pub Sized : Header → List ℕ → List ℕ → Type 0
+Sized h arcs marks = (length arcs ≡ 3 * h .arcs) × (length marks ≡ h .nodes + h .arcs)
 
 -- an item's mark: open 0, mandatory (must) 1, forbidden (shut) 2
 unfoldable pub markOf : Sheet → ℕ → ℕ

@@ -1,4 +1,5 @@
-// The definitions of sheets and slips, in specs/, and the header of a sheet. The code is in the crates above.
+// The definitions of sheets and slips, in specs/, the header of a sheet, and the bounds that its reader and its writer share. The code is in the crates
+// above.
 
 // The five numbers in front of a sheet: n, m, start, finish and K of document 01.
 pub struct Header {
@@ -8,3 +9,9 @@ pub struct Header {
     pub target: usize,
     pub limit: u32,
 }
+
+// One over the greatest limit.
+pub const LIMIT_END: u32 = 1000001;
+
+// One over an arc's most minutes.
+pub const MINUTES_END: u32 = 65536;

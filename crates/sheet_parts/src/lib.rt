@@ -10,6 +10,8 @@ ghost use Rattle.numbers.specs.Begun.{begun};
 ghost use Rattle.sheet_parts.specs.Sections.{headerIn, HeaderFits, arcOf};
 use numbers::SectionRead;
 use sheet::Header;
+use sheet::LIMIT_END;
+use sheet::MINUTES_END;
 use sheet_values::ValueRead;
 
 const NODES_LEAST: u32 = 2;
@@ -17,10 +19,6 @@ const NODES_LEAST: u32 = 2;
 const NODES_END: u32 = 65;
 
 const ARCS_END: u32 = 513;
-
-const LIMIT_END: u32 = 1000001;
-
-const MINUTES_END: u32 = 65536;
 
 // The five numbers and the position after them, or the refusal.
 pub enum HeaderRead {

@@ -11,7 +11,7 @@ use Rattle.sheet_reader.specs.declared.SheetRead.{SheetRead}
 use Rattle.sheet_reader.specs.declared.SheetRead.the-variants.{Got, Refused}
 use Rattle.lists.specs.Lists.{front}
 use Rattle.sheet_reader.proofs.TakenLaws.{taken-begun}
-use Rattle.sheet_required.specs.Held.{Whole}
+use Rattle.sheet_required.specs.Whole.{Whole}
 use Rattle.sheet_reader.specs.Answer.{answered, arcsBegun, marksBegun}
 use Rattle.rows.proofs.ArcLaws.{tail-at, head-at}
 use Rattle.rows.specs.Net.{netOf}
@@ -47,7 +47,7 @@ module _ (S : Sheet) (g : Good S) where
       tails = λ i h. subst (λ (x : ℕ). x < S .graph .nodes) (sym (ap (λ (G : Graph). tailOf G i) (same-graph S)) ∙ tail-at (netOf (S .graph .nodes) (flat (S .graph .arcs)) (S .marks)) i h) (good-tail S g i (rw counted at h));
       heads = λ i h. subst (λ (x : ℕ). x < S .graph .nodes) (sym (ap (λ (G : Graph). headOf G i) (same-graph S)) ∙ head-at (netOf (S .graph .nodes) (flat (S .graph .arcs)) (S .marks)) i h) (good-head S g i (rw counted at h));
     };
-    held = (length-flat (S .graph .arcs), g .size);
+    sized = (length-flat (S .graph .arcs), g .size);
     few = g .arcs;
     source = g .source;
     target = g .target;

@@ -7,7 +7,7 @@ use Rattle.varint.specs.Varint.{got, refuse}
 use Rattle.sheet.specs.declared.Header.{Header}
 use Rattle.sheet.specs.Reader.{taken}
 use Rattle.sheet.specs.Sheet.{sheetOf}
-use Rattle.sheet_required.specs.Held.{Whole}
+use Rattle.sheet_required.specs.Whole.{Whole}
 use Rattle.sheet_reader.specs.declared.SheetRead.{SheetRead}
 use Rattle.sheet_reader.specs.declared.SheetRead.the-variants.{Got, Refused}
 

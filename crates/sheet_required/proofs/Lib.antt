@@ -1,2 +1,2 @@
 pub mod RequiredLaws
-pub mod HeldLaws
+pub mod WholeLaws

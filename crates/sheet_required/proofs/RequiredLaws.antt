@@ -16,8 +16,8 @@ use Rattle.walks.specs.Graph.{Arc, noArc, tailOf, headOf, arcItem}
 use Rattle.walks.specs.Flat.{arcsOf, graphOf}
 use Rattle.walks.proofs.FlatLaws.{arc-at, arcs-many}
 use Rattle.sheet.specs.declared.Header.{Header}
-use Rattle.sheet.specs.Sheet.{markOf, isMandatory, endsMandatory, allArcs, isRequired, sheetOf}
-use Rattle.sheet_required.specs.Held.{Held, Ends, RoomListed}
+use Rattle.sheet.specs.Sheet.{markOf, isMandatory, endsMandatory, allArcs, isRequired, sheetOf, Sized}
+use Rattle.sheet_required.specs.Whole.{Ends, RoomListed}
 
 -- a mark of 1 that is set at i, seen from p
 set-one : (xs : List ℕ) (i p : ℕ) → p < length xs → eqb (getD (set xs i 1) p 0) 1 ≡ (eqb i p || eqb (getD xs p 0) 1)
@@ -53,7 +53,7 @@ module _ (h : Header) (xs ms : List ℕ) where
   abbrev with-arc : ℕ → List ℕ → List ℕ
   with-arc i ends = pick (eqb (getD ms (h .nodes + i) 0) 1) (set (set ends (getD xs (i * 3) 0) 1) (getD xs (i * 3 + 1) 0) 1) ends
 
-  module _ (held : Held h xs ms) where
+  module _ (sized : Sized h xs ms) where
     arc-adds :
         (i : ℕ) (ends : List ℕ) (p : ℕ) (d : Bool) → i < h .arcs → p < length ends → eqb (getD ends p 0) 1 ≡ d
         → eqb (getD (with-arc i ends) p 0) 1
@@ -61,7 +61,7 @@ module _ (h : Header) (xs ms : List ℕ) where
         && (eqb (tailOf (graphOf (h .nodes) xs) i) p || eqb (headOf (graphOf (h .nodes) xs) i) p)) || d)
     unfolding isMandatory markOf arcItem tailOf headOf
     arc-adds i ends p d l below e =
-        let q = arc-at xs i (omega (arith, held .0)) in
+        let q = arc-at xs i (omega (arith, sized .0)) in
         let t : getD (arcsOf xs) i noArc .tail ≡ getD xs (i * 3) 0 = ap (λ (x : Arc). x .tail) q in
         let u : getD (arcsOf xs) i noArc .head ≡ getD xs (i * 3 + 1) 0 = ap (λ (x : Arc). x .head) q in
         rw (t, u) (go (eqb (getD ms (h .nodes + i) 0) 1))
@@ -103,7 +103,7 @@ module _ (h : Header) (xs ms : List ℕ) where
     all-ends {j} w l =
         let z : j ≡ 0 = omega arith in
         let e : h .arcs - 0 ≡ h .arcs = omega arith in
-        record { size = w .size; each = λ p q. w .each p q ∙ rw (z, e, arcs-many xs (h .arcs) (held .0)) }
+        record { size = w .size; each = λ p q. w .each p q ∙ rw (z, e, arcs-many xs (h .arcs) (sized .0)) }
 
   pub required-by :
       {ends : List ℕ} → Ends (sheetOf h xs ms) ends → (p : ℕ) → p < 64

@@ -5,8 +5,8 @@ ghost use Prim.Native.Nat.{_+_, _*_, _≤_};
 ghost use lib.ListN.{set};
 ghost use lib.Dec.{eqb};
 ghost use Rattle.lists.specs.Lists.{pick};
-ghost use Rattle.sheet.specs.Sheet.{required, sheetOf};
-ghost use Rattle.sheet_required.specs.Held.{Held, Ends, RoomListed};
+ghost use Rattle.sheet.specs.Sheet.{required, sheetOf, Sized};
+ghost use Rattle.sheet_required.specs.Whole.{Ends, RoomListed};
 use sheet::Header;
 use walks::MANDATORY;
 use walks::NODES;
@@ -33,7 +33,7 @@ fn mark_ends(ends: &mut [u8], mark: u8, tail: u32, head: u32)
 
 // The nodes that end a mandatory arc, marked 1.
 pub fn ends_of(header: Header, arcs: &[u32], marks: &[u8]) -> [u8; NODES]
-    requires { ⌜ Held header (now arcs) (now marks) ⌝ }
+    requires { ⌜ Sized header (now arcs) (now marks) ⌝ }
     ensures { λ r. ⌜ Ends (sheetOf header (now (arcs .entry)) (now (marks .entry))) r ⌝ }
 {
     let mut ends = [0u8; NODES];
@@ -77,7 +77,7 @@ fn note_node(list: &mut [usize], count: usize, node: usize)
 
 // Gives how many required nodes there are (document 01: counted stops) and writes as many of them, ascending, over the front of `list` as it has room for.
 pub fn required_nodes(header: Header, arcs: &[u32], marks: &[u8], list: &mut [usize]) -> usize
-    requires { ⌜ Held header (now arcs) (now marks) × (header .nodes ≤ 64) ⌝ }
+    requires { ⌜ Sized header (now arcs) (now marks) × (header .nodes ≤ 64) ⌝ }
     ensures { λ r. let S = sheetOf header (now (arcs .entry)) (now (marks .entry)) in
         ⌜ RoomListed (required S) (now (list .entry)) (now (list .exit)) r ⌝ }
 {

@@ -87,12 +87,12 @@ module _ (h : Header) where
             same-target e = ends-left (stop 6 _ (not-other (h .nodes) (h .source) (h .target) target e))
 
             module _ (apart : h .target ≡ h .source → ⊥) where
-              pub high-limit : 1000000 < h .limit → 8 ≡ headerFault h
-              high-limit l = ends-left (on 7 _ (other (h .nodes) (h .source) (h .target) target apart) (fails 8 (lt-leb (h .limit) 1000000 l)))
+              pub high-limit : 1000001 ≤ h .limit → 8 ≡ headerFault h
+              high-limit l = ends-left (on 7 _ (other (h .nodes) (h .source) (h .target) target apart) (fails 8 (lt-leb (h .limit) 1000000 (omega arith))))
 
-              pub header-fine : h .limit ≤ 1000000 → 0 ≡ headerFault h
+              pub header-fine : h .limit < 1000001 → 0 ≡ headerFault h
               header-fine l =
-                  ends-left (on 7 _ (other (h .nodes) (h .source) (h .target) target apart) (sym (passes 8 (le-leb (h .limit) 1000000 l))))
+                  ends-left (on 7 _ (other (h .nodes) (h .source) (h .target) target apart) (sym (passes 8 (le-leb (h .limit) 1000000 (omega arith)))))
 
 -- an arc
 module _ (n t x w : ℕ) where
@@ -111,13 +111,13 @@ module _ (n t x w : ℕ) where
       same-head e = on 9 _ (lt-ltb t n tail) (stop 8 _ (not-other n t x head e))
 
       module _ (apart : x ≡ t → ⊥) where
-        pub high-minutes : 65535 < w → 10 ≡ arcFault n t x w
+        pub high-minutes : 65536 ≤ w → 10 ≡ arcFault n t x w
         unfolding arcFault
-        high-minutes l = on 9 _ (lt-ltb t n tail) (on 9 _ (other n t x head apart) (fails 10 (lt-leb w 65535 l)))
+        high-minutes l = on 9 _ (lt-ltb t n tail) (on 9 _ (other n t x head apart) (fails 10 (lt-leb w 65535 (omega arith))))
 
-        pub arc-fine : w ≤ 65535 → 0 ≡ arcFault n t x w
+        pub arc-fine : w < 65536 → 0 ≡ arcFault n t x w
         unfolding arcFault
-        arc-fine l = on 9 _ (lt-ltb t n tail) (on 9 _ (other n t x head apart) (sym (passes 10 (le-leb w 65535 l))))
+        arc-fine l = on 9 _ (lt-ltb t n tail) (on 9 _ (other n t x head apart) (sym (passes 10 (le-leb w 65535 (omega arith)))))
 
 -- three numbers, and those behind them
 three-at : (xs : List ℕ) (i : ℕ) → i + 2 < length xs → drop i xs ≡ getD xs i 0 ∷ getD xs (i + 1) 0 ∷ getD xs (i + 2) 0 ∷ drop (i + 3) xs

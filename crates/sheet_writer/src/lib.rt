@@ -8,8 +8,10 @@ ghost use Rattle.lists.specs.Lists.{front, Put};
 ghost use Rattle.varint.specs.Answer.{small};
 ghost use Rattle.sheet.specs.Draft.{draftOf, draftSheet, headerNumbers, sheetBytes};
 ghost use Rattle.sheet.specs.Writer.{headerFault, arcFault, arcsFault, marksFault, requiredFault, draftFault, sheetWritten};
-ghost use Rattle.sheet_required.specs.Held.{Held};
+ghost use Rattle.sheet.specs.Sheet.{Sized};
 use sheet::Header;
+use sheet::LIMIT_END;
+use sheet::MINUTES_END;
 use walks::ARCS;
 use walks::FORBIDDEN;
 use walks::GOALS;
@@ -17,10 +19,6 @@ use walks::NODES;
 use work::Answer;
 
 const NODES_LEAST: usize = 2;
-
-const LIMIT_MOST: u32 = 1000000;
-
-const MINUTES_MOST: u32 = 65535;
 
 // The numbers in front of a sheet.
 const HEADER_NUMBERS: usize = 5;
@@ -47,7 +45,7 @@ fn header_fault(header: Header) -> u32
     if header.target == header.source {
         return 7;
     }
-    if LIMIT_MOST < header.limit {
+    if LIMIT_END <= header.limit {
         return 8;
     }
     0
@@ -66,7 +64,7 @@ fn arc_fault(nodes: u32, tail: u32, head: u32, minutes: u32) -> u32
     if head == tail {
         return 9;
     }
-    if MINUTES_MOST < minutes {
+    if MINUTES_END <= minutes {
         return 10;
     }
     0
@@ -103,7 +101,7 @@ fn marks_fault(marks: &[u8]) -> u32
 
 // 13 where more than eight nodes are required, else 0.
 fn required_fault(header: Header, arcs: &[u32], marks: &[u8]) -> u32
-    requires { ⌜ Held header (now arcs) (now marks) × (header .nodes ≤ 64) ⌝ }
+    requires { ⌜ Sized header (now arcs) (now marks) × (header .nodes ≤ 64) ⌝ }
     ensures { λ r. ⌜ r ≡ requiredFault (draftOf header (now (arcs .entry)) (now (marks .entry))) ⌝ }
 {
     let mut nodes = [0usize; GOALS];

@@ -7,7 +7,7 @@ use lib.ListN.{length, take}
 use borrow.Author.Needs.{needs}
 use Rattle.lists.specs.Lists.{member, every}
 use Rattle.sheet.specs.Sheet.{required, sheetOf}
-use Rattle.sheet_required.proofs.HeldLaws.{room-front}
+use Rattle.sheet_required.proofs.WholeLaws.{room-front}
 use Rattle.check_claim.proofs.all_required.Statement.{statement}
 use Rattle.check_claim.proofs.all_required.Tie as tie
 

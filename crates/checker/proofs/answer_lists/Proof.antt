@@ -6,7 +6,7 @@ use lib.ListN.{length, take}
 use borrow.Author.Needs.{needs}
 use Rattle.lists.proofs.TestedLaws.{passed, failed}
 use Rattle.sheet.specs.Sheet.{sheetOf}
-use Rattle.sheet_required.proofs.HeldLaws.{listed-front, items-are}
+use Rattle.sheet_required.proofs.WholeLaws.{listed-front, items-are}
 use Rattle.slip_reader.specs.Form.{slipFrom, valuesAt}
 use Rattle.check_answer.specs.declared.CheckAnswer.{CheckAnswer}
 use Rattle.check_answer.specs.Answer.{checkAnswerOf}

@@ -5,7 +5,7 @@ use borrow.Author.Needs.{needs}
 use borrow.Author.Tests.{ltb-false}
 use Rattle.lists.proofs.TestLaws.{or-false}
 use Rattle.sheet.specs.Sheet.{sheetOf}
-use Rattle.sheet_required.proofs.HeldLaws.{items-are}
+use Rattle.sheet_required.proofs.WholeLaws.{items-are}
 use Rattle.slip_reader.specs.declared.SlipRead.{SlipRead}
 use Rattle.slip_reader.specs.declared.SlipRead.the-variants.{Got}
 use Rattle.slip_reader.specs.Form.{SlipCounts}

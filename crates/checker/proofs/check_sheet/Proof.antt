@@ -46,13 +46,13 @@ array-share-prefix-arcs : tie.Need-array-share-prefix-arcs
 array-share-prefix-arcs c = omega (arith, loaded (c .before .before .before) .whole .few, c .before .before .before .before .before .before .before .read .kept .1 .0)
 
 slice-aggregate-answer-taken : tie.Need-slice-aggregate-answer-taken
-slice-aggregate-answer-taken c = sym (loaded (c .before .before .before .before) .whole .held .0)
+slice-aggregate-answer-taken c = sym (loaded (c .before .before .before .before) .whole .sized .0)
 
 array-share-prefix-marks : tie.Need-array-share-prefix-marks
 array-share-prefix-marks c = let W = loaded (c .before .before .before .before) .whole in omega (arith, W .few, W .proper .few, c .before .before .before .before .before .before .before .before .read .kept .1 .1 .0)
 
 slice-aggregate-answer-taken-2 : tie.Need-slice-aggregate-answer-taken-2
-slice-aggregate-answer-taken-2 c = sym (loaded (c .before .before .before .before .before) .whole .held .1)
+slice-aggregate-answer-taken-2 c = sym (loaded (c .before .before .before .before .before) .whole .sized .1)
 
 answer-taken-requires : tie.Need-answer-taken-requires
 answer-taken-requires c κs = loaded (c .before .before .before .before .before) .whole

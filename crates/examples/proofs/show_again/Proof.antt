@@ -41,13 +41,13 @@ array-share-prefix-legs : tie.Need-array-share-prefix-legs
 array-share-prefix-legs c = omega (arith, loaded (c .before .before .before) .whole .few, c .before .before .before .before .before .before .before .read .kept .1 .0)
 
 slice-aggregate-show-write : tie.Need-slice-aggregate-show-write
-slice-aggregate-show-write c = sym (loaded (c .before .before .before .before) .whole .held .0)
+slice-aggregate-show-write c = sym (loaded (c .before .before .before .before) .whole .sized .0)
 
 array-share-prefix-marks : tie.Need-array-share-prefix-marks
 array-share-prefix-marks c = let W = loaded (c .before .before .before .before) .whole in omega (arith, W .few, W .proper .few, c .before .before .before .before .before .before .before .before .read .kept .1 .1 .0)
 
 slice-aggregate-show-write-2 : tie.Need-slice-aggregate-show-write-2
-slice-aggregate-show-write-2 c = sym (loaded (c .before .before .before .before .before) .whole .held .1)
+slice-aggregate-show-write-2 c = sym (loaded (c .before .before .before .before .before) .whole .sized .1)
 
 show-write-requires : tie.Need-show-write-requires
 show-write-requires c κs = search needs

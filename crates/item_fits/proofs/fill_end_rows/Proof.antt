@@ -17,7 +17,7 @@ row-from-requires : tie.Need-row-from-requires
 row-from-requires c κs =
     let s = c .before .before .before .before in
     let w = s .pre .0 in
-    ((w .proper, omega (arith, w .held .0, w .few)), (length-take-le 64 (s .args .rows .now) (omega arith), w .source, omega (arith, w .limit)))
+    ((w .proper, omega (arith, w .sized .0, w .few)), (length-take-le 64 (s .args .rows .now) (omega arith), w .source, omega (arith, w .limit)))
 
 sub-row-to : tie.Need-sub-row-to
 sub-row-to c = search needs
@@ -34,7 +34,7 @@ row-to-requires c κs =
     let w = s .pre .0 in
     let f = c .before .before .before .row-from in
     let l = f .kept .1 .1 .1 .1 .0 ∙ length-take-le 64 (s .args .rows .now) (omega arith) in
-    ((w .proper, omega (arith, w .held .0, w .few)), (second-long (f .last .1 .1 .1 .1 .0) (s .args .rows .now) l (s .pre .1), w .target, omega (arith, w .limit)))
+    ((w .proper, omega (arith, w .sized .0, w .few)), (second-long (f .last .1 .1 .1 .1 .0) (s .args .rows .now) l (s .pre .1), w .target, omega (arith, w .limit)))
 
 same-length : tie.Need-same-length
 same-length c = search needs

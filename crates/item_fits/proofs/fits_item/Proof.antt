@@ -6,13 +6,13 @@ use Rattle.item_fits.proofs.fits_item.Statement.{statement}
 use Rattle.item_fits.proofs.fits_item.Tie as tie
 
 entry-requires : tie.Need-entry-requires
-entry-requires c κs = let s = c .before .before .before in (λ i h. (s .pre .0 .whole .proper .tails i h, s .pre .0 .whole .proper .heads i h), s .pre .0 .whole .proper .few, omega (arith, s .pre .0 .whole .held .0))
+entry-requires c κs = let s = c .before .before .before in (λ i h. (s .pre .0 .whole .proper .tails i h, s .pre .0 .whole .proper .heads i h), s .pre .0 .whole .proper .few, omega (arith, s .pre .0 .whole .sized .0))
 
 cast-entry : tie.Need-cast-entry
 cast-entry c = search needs
 
 exit-requires : tie.Need-exit-requires
-exit-requires c κs = let s = c .before .before .before .before in (λ i h. (s .pre .0 .whole .proper .tails i h, s .pre .0 .whole .proper .heads i h), omega (arith, s .pre .0 .whole .held .0))
+exit-requires c κs = let s = c .before .before .before .before in (λ i h. (s .pre .0 .whole .proper .tails i h, s .pre .0 .whole .proper .heads i h), omega (arith, s .pre .0 .whole .sized .0))
 
 own-requires : tie.Need-own-requires
 own-requires c κs = search needs

@@ -23,7 +23,7 @@ list-reasons-requires c κs =
     let W = U .whole in
     let f = c .before .before .before .before .any-forbidden .ensures in
     rw (Q .nodes, Q .from, Q .to, Q .cap)
-    ((W .proper, U .fit, omega (arith, W .held .0, W .few), omega (arith, W .held .1, W .proper .few, W .few)), ((s .pre .0 .1, omega (arith, s .pre .0 .2, W .held .0, W .proper .few, W .few), W .source, W .target, omega (arith, W .limit)), (U .unmet, s .pre .1 (sym f ∙ c .before .before .before .if1 .taken))))
+    ((W .proper, U .fit, omega (arith, W .sized .0, W .few), omega (arith, W .sized .1, W .proper .few, W .few)), ((s .pre .0 .1, omega (arith, s .pre .0 .2, W .sized .0, W .proper .few, W .few), W .source, W .target, omega (arith, W .limit)), (U .unmet, s .pre .1 (sym f ∙ c .before .before .before .if1 .taken))))
 
 same-length : tie.Need-same-length
 same-length c = search needs

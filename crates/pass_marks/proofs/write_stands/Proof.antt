@@ -7,7 +7,7 @@ use borrow.Rule.Slice.PartMut.{same-len-mid}
 use Rattle.pass_rules.specs.Verdict.{newMarks}
 use Rattle.pass_rules.proofs.SlipOfPass.{new-marks-size}
 use Rattle.sheet.specs.Sheet.{sheetOf}
-use Rattle.sheet_required.proofs.HeldLaws.{items-are}
+use Rattle.sheet_required.proofs.WholeLaws.{items-are}
 use Rattle.pass_marks.proofs.SlipLaws.{one-in, behind-one, zero-front}
 use borrow.Author.Needs.{needs}
 use Rattle.pass_marks.proofs.write_stands.Statement.{statement}

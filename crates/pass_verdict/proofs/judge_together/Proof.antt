@@ -6,7 +6,7 @@ use lib.ListN.{length, take}
 use borrow.Author.Needs.{needs}
 use Rattle.sheet.specs.Sheet.{isForbidden, required, sheetOf}
 use Rattle.pass_rules.specs.Verdict.{fitsSheet}
-use Rattle.sheet_required.proofs.HeldLaws.{room-front}
+use Rattle.sheet_required.proofs.WholeLaws.{room-front}
 use Rattle.pass_verdict.proofs.JudgeLaws.{required-sought, nothing-required, judged-zero, judged-three}
 use Rattle.pass_verdict.proofs.judge_together.Statement.{statement}
 use Rattle.pass_verdict.proofs.judge_together.Tie as tie

@@ -9,7 +9,7 @@ use native.Mathlib.Numerals.{add-one}
 use lib.Dec.{eqb}
 use lib.ListN.{length, getD}
 use Rattle.pass_rules.specs.Pass.{markIn}
-use Rattle.sheet_required.proofs.HeldLaws.{room-exact}
+use Rattle.sheet_required.proofs.WholeLaws.{room-exact}
 use Rattle.sheet_required.proofs.RequiredLaws.{Listing, listing, listed-size, list-more, list-pass, listed}
 use Rattle.text_answer.specs.Text.{newlyForbidden}
 use Rattle.text_answer.proofs.newly_forbidden.Statement.{statement}

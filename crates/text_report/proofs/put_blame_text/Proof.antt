@@ -3,7 +3,7 @@ use borrow.Author.Needs.{needs}
 use mathlib.Core.Path.{sym, ap, _∙_, subst}
 use native.Mathlib.Omega.{arith}
 use lib.ListN.{length}
-use Rattle.sheet_required.proofs.HeldLaws.{listed-front}
+use Rattle.sheet_required.proofs.WholeLaws.{listed-front}
 use Rattle.slip_reader.specs.Form.{slipOf, valuesAt, SlipCounts}
 use Rattle.text_report.proofs.SlipTextLaws.{never-unformed, told}
 use Rattle.text_report.proofs.put_blame_text.Statement.{statement}

@@ -4,7 +4,7 @@ use Prim.Native.Nat.{_*_, _+_}
 use mathlib.Core.Path.{_≡_, refl, sym, ap, _∙_}
 use native.Mathlib.Omega.{arith}
 use lib.ListN.{length, take}
-use Rattle.sheet_required.proofs.HeldLaws.{listed-front}
+use Rattle.sheet_required.proofs.WholeLaws.{listed-front}
 use Rattle.sheet_reader.specs.Loaded.{Loaded}
 use Rattle.text_answer.specs.Text.{newlyForbidden}
 use Rattle.text_report.proofs.SlipTextLaws.{never-refused, Stands, stands-is}
@@ -47,7 +47,7 @@ array-share-prefix-marks : tie.Need-array-share-prefix-marks
 array-share-prefix-marks c = let W = loaded (c .before .before) .whole in omega (arith, W .few, W .proper .few, c .before .before .before .before .before .before .read .kept .1 .1 .0)
 
 slice-aggregate-newly-forbidden : tie.Need-slice-aggregate-newly-forbidden
-slice-aggregate-newly-forbidden c = sym (loaded (c .before .before .before) .whole .held .1)
+slice-aggregate-newly-forbidden c = sym (loaded (c .before .before .before) .whole .sized .1)
 
 slice-aggregate-newly-forbidden-2 : tie.Need-slice-aggregate-newly-forbidden-2
 slice-aggregate-newly-forbidden-2 c = search needs

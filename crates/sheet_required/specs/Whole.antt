@@ -1,23 +1,19 @@
 -- A sheet as the code has it.
-use Prim.Native.Nat.{ℕ, _+_, _*_, _≤_, _<_}
+use Prim.Native.Nat.{ℕ, _≤_, _<_}
 use mathlib.Core.Path.{_≡_}
 use mathlib.Core.List.{List}
 use lib.ListN.{length, getD, take}
 use lib.Dec.{eqb}
 use Rattle.lists.specs.Lists.{front}
-use Rattle.sheet.specs.Sheet.{Sheet, sheetOf, required, endsMandatory, allArcs}
+use Rattle.sheet.specs.Sheet.{Sheet, sheetOf, Sized, required, endsMandatory, allArcs}
 use Rattle.sheet.specs.Good.{Good}
 use Rattle.rows.specs.Net.{netOf, Proper}
 use Rattle.sheet.specs.declared.Header.{Header}
 
--- as many numbers as the header says
-abbrev pub Held : Header → List ℕ → List ℕ → Type 0
-Held h arcs marks = (length arcs ≡ 3 * h .arcs) × (length marks ≡ h .nodes + h .arcs)
-
 -- the numbers of a taken sheet
 pub record Whole (h : Header) (arcs marks : List ℕ) : Type 0 where
   pub proper : Proper (netOf (h .nodes) arcs marks)
-  pub held : Held h arcs marks
+  pub sized : Sized h arcs marks
   pub few : h .arcs ≤ 512
   pub source : h .source < h .nodes
   pub target : h .target < h .nodes

@@ -11,11 +11,11 @@ use Rattle.walks.specs.Flat.{graphOf}
 use Rattle.walks.specs.Graph.{itemCount}
 use Rattle.walks.proofs.FlatLaws.{arcs-count}
 use Rattle.sheet.specs.declared.Header.{Header}
-use Rattle.sheet_required.specs.Held.{Whole, RoomListed}
+use Rattle.sheet_required.specs.Whole.{Whole, RoomListed}
 
 -- the items that the header counts
 pub items-are : {h : Header} {arcs marks : List ℕ} → Whole h arcs marks → itemCount (graphOf (h .nodes) arcs) ≡ h .nodes + h .arcs
-items-are {h} {arcs} W = let e = arcs-count arcs in omega (arith, e, W .held .0)
+items-are {h} {arcs} W = let e = arcs-count arcs in omega (arith, e, W .sized .0)
 
 -- an entry of a list of small numbers
 pub goals-at : (n i : ℕ) (xs : List ℕ) → Below n xs → i < length xs → getD xs i 0 < n
