@@ -20,7 +20,9 @@ use Rattle.varint.specs.Answer.{small}
 pub groups-last : (k x : ℕ) → x ≤ 127 → writeGroups k x ≡ x ∷ []
 unfolding writeGroups
 groups-last zero x h = refl
-groups-last (suc k) x h = let l : x < 128 = omega arith in simp (lt-ltb _ _ l)
+groups-last (suc k) x h =
+    let l : x < 128 = omega arith in
+    ap (λ (t : Bool). pick t (x ∷ []) ((128 + x % 128) ∷ writeGroups k (x / 128))) (lt-ltb x 128 l)
 
 groups-more : (k x : ℕ) → 127 < x → writeGroups (suc k) x ≡ (128 + x % 128) ∷ writeGroups k (x / 128)
 unfolding writeGroups
