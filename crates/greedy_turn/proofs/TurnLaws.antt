@@ -13,10 +13,10 @@ use lib.Dec.{leb}
 use borrow.Author.Tests.{eqb-true}
 use Rattle.lists.specs.Lists.{member}
 use Rattle.lists.proofs.MemberLaws.{member-place, member-away}
-use Rattle.walks.specs.Graph.{Graph, closedIn, least, fits}
+use Rattle.walks.specs.Graph.{Graph, closedIn, least}
 use Rattle.walks.specs.Goals.{entryOf, exitOf, ownOf}
 use Rattle.walks.proofs.OpenedLaws.{open-other}
-use Rattle.rows.specs.Held.{held, code, kept}
+use Rattle.rows.specs.Held.{held, kept}
 use Rattle.rows.specs.Net.{Net, Proper, Packed}
 use Rattle.rows.specs.Rows.{StartsFit}
 use Rattle.rows.proofs.ArcLaws.{item-at, entry-below}

@@ -108,8 +108,8 @@ packed-joins {N} {xs} p P j h =
     (omega (arith, t .3 .tail, p .tails (t .0) (t .1), p .few), omega (arith, t .3 .head, p .heads (t .0) (t .1), p .few))
 
 -- no arc, and one stored behind the numbers in front
-pub put-none : (xs d out ys : List ℕ) (n : ℕ) → ys ≡ [] → Put xs d out n → Put (xs ++ ys) d out n
-put-none xs d out ys n e P = let same : xs ++ ys ≡ xs = ap (λ (zs : List ℕ). xs ++ zs) e ∙ append-nil xs in rw same P
+pub put-nothing : (xs d out ys : List ℕ) (n : ℕ) → ys ≡ [] → Put xs d out n → Put (xs ++ ys) d out n
+put-nothing xs d out ys n e P = let same : xs ++ ys ≡ xs = ap (λ (zs : List ℕ). xs ++ zs) e ∙ append-nil xs in rw same P
 
 pub put-arc : (xs d out : List ℕ) (c t h w : ℕ) → c * 3 + 2 < length out → Put xs d out (c * 3)
     → Put (xs ++ (t ∷ h ∷ w ∷ [])) d (arcSet out c t h w) ((c + 1) * 3)

@@ -12,6 +12,7 @@ use Rattle.lists.proofs.TestLaws.{true-and}
 use Rattle.sheet.specs.declared.Header.{Header}
 use Rattle.sheet.specs.Reader.{isNodeCount, isOther}
 use Rattle.sheet.specs.Draft.{draftOf}
+use Rattle.sheet.proofs.DraftLaws.{sized-fault}
 use Rattle.sheet.specs.Writer.{fault, firstOf, headerFault, sizeFault, arcFault, arcsFault, marksFault, requiredFault, draftFault}
 
 -- the first of two: the first where it is one, else the second
@@ -200,10 +201,9 @@ module _ (h : Header) (arcs marks : List ℕ) where
         behind-sizes :
             {r : ℕ} → r ≡ firstOf (arcsFault (h .nodes) arcs) (firstOf (marksFault marks) (requiredFault (draftOf h arcs marks)))
             → r ≡ draftFault (draftOf h arcs marks)
-        unfolding draftFault sizeFault
+        unfolding draftFault
         behind-sizes e =
-            let z = passes 3 (true-and (eq-eqb (length arcs) (3 * h .arcs) a) (eq-eqb (length marks) (h .nodes + h .arcs) m)) in
-            first-next (headerFault h) _ p (first-next (sizeFault (draftOf h arcs marks)) _ z e)
+            first-next (headerFault h) _ p (first-next (sizeFault (draftOf h arcs marks)) _ (sized-fault (draftOf h arcs marks) (a, m)) e)
 
         pub in-arcs : {r : ℕ} → r ≡ arcsFault (h .nodes) arcs → (r ≡ 0 → ⊥) → r ≡ draftFault (draftOf h arcs marks)
         in-arcs e d = behind-sizes (first-some (arcsFault (h .nodes) arcs) _ e d)

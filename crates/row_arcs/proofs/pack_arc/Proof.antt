@@ -4,14 +4,14 @@ use native.Mathlib.Omega.{arith}
 use denote.Ref.{now}
 use borrow.Author.Tests.{eq-eqb, ne-eqb}
 use lib.ListN.{length-set}
-use Rattle.row_arcs.proofs.PackLaws.{put-none, put-arc, arc-shut, head-shut, arc-there}
+use Rattle.row_arcs.proofs.PackLaws.{put-nothing, put-arc, arc-shut, head-shut, arc-there}
 use Rattle.rows.specs.Net.{netOf, headIn, tailAt, headAt, weightAt}
 use borrow.Author.Needs.{needs}
 use Rattle.row_arcs.proofs.pack_arc.Statement.{statement}
 use Rattle.row_arcs.proofs.pack_arc.Tie as tie
 
 returns : tie.Need-returns
-returns c xs d P = let s = c .before .before .before in put-none xs d _ _ _ (arc-shut (netOf (s .args .nodes) (now (s .args .arcs)) (now (s .args .marks))) (s .args .arc) (eq-eqb _ _ (c .if1 .taken))) P
+returns c xs d P = let s = c .before .before .before in put-nothing xs d _ _ _ (arc-shut (netOf (s .args .nodes) (now (s .args .arcs)) (now (s .args .marks))) (s .args .arc) (eq-eqb _ _ (c .if1 .taken))) P
 
 cast-if2 : tie.Need-cast-if2
 cast-if2 c =
@@ -25,7 +25,7 @@ shared-slice-read-if2 c =
     omega (arith, s .pre .0 .heads (s .args .arc) (s .pre .1), s .pre .0 .marked)
 
 returns-2 : tie.Need-returns-2
-returns-2 c xs d P = let s = c .before .before .before .before .before in put-none xs d _ _ _ (head-shut (netOf (s .args .nodes) (now (s .args .arcs)) (now (s .args .marks))) (s .args .arc) (eq-eqb _ _ (c .if2 .taken))) P
+returns-2 c xs d P = let s = c .before .before .before .before .before in put-nothing xs d _ _ _ (head-shut (netOf (s .args .nodes) (now (s .args .arcs)) (now (s .args .marks))) (s .args .arc) (eq-eqb _ _ (c .if2 .taken))) P
 
 slice-write-packed-2 : tie.Need-slice-write-packed-2
 slice-write-packed-2 c = simp length-set (omega arith)
