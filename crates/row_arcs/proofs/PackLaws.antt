@@ -183,16 +183,21 @@ unfolding openTo
 open-more N n = ap (openTo N) (add-one n)
 
 -- what packing gives and leaves: the r numbers in front are those of the open arcs
-pub record Packs (N : Net) (d out : List ℕ) (r : ℕ) : Type 0 where
-  pub kept : length out ≡ length d
+pub record Packs (N : Net) (out : List ℕ) (r : ℕ) : Type 0 where
   pub whole : r / 3 * 3 ≡ r
   pub most : r ≤ length (N .arcs)
   pub within : r ≤ length out
   pub arcs : take r out ≡ openArcs N
   pub packed : Packed N (take r out)
 
-pub packs : (N : Net) (d : List ℕ) {out : List ℕ} {r : ℕ} → length (N .arcs) ≤ length d → Put (openArcs N) d out r → Packs N d out r
-packs N d {out} {r} room w = record { kept = kept; whole = omega (arith, many); most = most; within = omega (arith, most, kept); arcs = arcs; packed = rw many (pack-done within refl (rw (w .1) (L .packed))) }
+pub packs : (N : Net) (d : List ℕ) {out : List ℕ} {r : ℕ} → length (N .arcs) ≤ length d → Put (openArcs N) d out r → Packs N out r
+packs N d {out} {r} room w = record {
+  whole = omega (arith, many);
+  most = most;
+  within = omega (arith, many, within);
+  arcs = rw (w .1) (take-at (openArcs N) _ r (sym (w .0)));
+  packed = rw many (pack-done within refl (rw (w .1) (L .packed)));
+}
   where
     L : Looked N (count N) d
     L = looked N d (count N) (omega arith)
@@ -203,14 +208,8 @@ packs N d {out} {r} room w = record { kept = kept; whole = omega (arith, many); 
     most : r ≤ length (N .arcs)
     most = omega (arith, w .0, open-most N (count N))
 
-    kept : length out ≡ length d
-    kept = ap length (w .1) ∙ length-front (openArcs N) d (omega (arith, w .0, most))
-
     within : L .many * 3 ≤ length out
-    within = omega (arith, most, many, kept)
-
-    arcs : take r out ≡ openArcs N
-    arcs = rw (w .1) (take-at (openArcs N) _ r (sym (w .0)))
+    within = omega (arith, most, many, ap length (w .1) ∙ length-front (openArcs N) d (omega (arith, w .0, most)))
 
 pub open-packed : (N : Net) → Packed N (openArcs N)
 open-packed N = let P = packs N (N .arcs) (omega arith) (refl, refl) in rw (P .arcs) at (P .packed)

@@ -98,8 +98,8 @@ pub record Entering (m : ℕ) (ys : List ℕ) (v active : ℕ) : Type 0 where
   pub tails : (j : ℕ) → j < m → headIn ys j ≡ v → bitOf active (tailIn ys j) ≡ 1
   pub only : (x : ℕ) → (x ≡ v → ⊥) → ((j : ℕ) → j < m → headIn ys j ≡ v → tailIn ys j ≡ x → ⊥) → bitOf active x ≡ 0
 
--- What opening item i does: the rows hold the least lengths for the marks, and the rows that were another before are kept, no others. An arc to a
--- closed node changes nothing.
+-- What opening item i does: the rows hold the least lengths for the marks; for an arc exactly the rows that it cuts are kept as they were, for a node
+-- all. An arc to a closed node changes nothing.
 pub record ItemOpened (n : ℕ) (xs : List ℕ) (i cap : ℕ) (marks ys starts work after : List ℕ) (kept : ℕ) : Type 0 where
   pub rows : (old : List ℕ) → Opened n xs old i marks ys starts → RowsAre (netOf n xs old) cap starts (length starts) work
       → RowsAre (netOf n xs marks) cap starts (length starts) after
