@@ -1,7 +1,7 @@
 -- Numbers written one after the other over the front of a list, each in bytes of its own: laws for every way of writing one number.
 -- Assumes nothing.
 use Prim.Native.Nat.{ℕ, _+_, _-_, _≤_, _<_}
-use mathlib.Core.Path.{_≡_, ap, sym, _∙_}
+use mathlib.Core.Path.{_≡_, refl, ap, sym, _∙_}
 use mathlib.Core.List.{List, [], _∷_, _++_, append-assoc, append-nil}
 use native.Mathlib.Omega.{arith}
 use native.Mathlib.Numerals.{add-one}
@@ -14,6 +14,13 @@ use Rattle.lists.specs.Lists.{Put}
 pub record Rows {A : Type 0} (one : A → List ℕ) (row : List A → List ℕ) : Type 0 where
   pub empty : row [] ≡ []
   pub first : (x : A) (xs : List A) → row (x ∷ xs) ≡ one x ++ row xs
+
+-- numbers that stand as they are
+abbrev pub just : ℕ → List ℕ
+just x = x ∷ []
+
+pub just-rows : Rows just (λ (xs : List ℕ). xs)
+just-rows = record { empty = refl; first = λ x xs. refl }
 
 module _ {one : ℕ → List ℕ} {row : List ℕ → List ℕ} (R : Rows one row) where
   pub rows-append : (xs ys : List ℕ) → row (xs ++ ys) ≡ row xs ++ row ys

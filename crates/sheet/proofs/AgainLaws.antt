@@ -6,14 +6,14 @@ use mathlib.Core.Bool.{Bool}
 use mathlib.Core.List.{List, [], _++_, append-assoc, append-nil}
 use lib.ListN.{length}
 use Rattle.lists.proofs.Pigeonhole.{Below, below-append, below-parts}
-use Rattle.lists.proofs.RowLaws.{Rows, rows-append}
+use Rattle.lists.proofs.RowLaws.{Rows, rows-append, just, just-rows}
 use Rattle.varint.proofs.AgainLaws.{number-again}
 use Rattle.varint.proofs.VarintLaws.{after-got, number-got, got-both, several-first}
 use Rattle.varint.proofs.WriteLaws.{numbers-rows}
 use Rattle.varint.specs.Varint.{Read, got, after, number, several, writeNumber, writeNumbers}
 use Rattle.walks.specs.Graph.{Arc}
 use Rattle.walks.specs.Flat.{flat}
-use Rattle.sheet.proofs.BackLaws.{one, arcNumbers, flat-rows, one-rows}
+use Rattle.sheet.proofs.BackLaws.{arcNumbers, flat-rows}
 use Rattle.sheet.proofs.SheetLaws.{several-got}
 use Rattle.sheet.specs.declared.Header.{Header}
 use Rattle.sheet.specs.Draft.{headerNumbers, sheetNumbers}
@@ -38,7 +38,7 @@ join {xs} {ys} {bs} {mid} {rest} p q = record {
 abbrev Again : {A : Type 0} → (List ℕ → Read A) → (A → List ℕ) → Type 0
 Again {A} f g = (bs : List ℕ) (a : A) (rest : List ℕ) → Below 256 bs → f bs ≡ got a rest → Numbers (g a) bs rest
 
-judged-again : (e : ℕ) (ok : ℕ → Bool) → Again (number e ok) one
+judged-again : (e : ℕ) (ok : ℕ → Bool) → Again (number e ok) just
 unfolding writeNumbers
 judged-again e ok bs x rest B q =
     let s = number-again bs x rest B (number-got e ok bs x rest q .1) in
@@ -65,27 +65,27 @@ several-again f g row R F (suc k) bs xs rest B e =
 arc-again : (n : ℕ) → Again (readArc n) arcNumbers
 unfolding readArc arcHead arcMinutes
 arc-again n bs x rest B e =
-    let a = after-again (number 9 (isNode n)) one (arcHead n) (judged-again 9 (isNode n)) bs x rest B e in
-    let b = after-again (number 9 (isOther n (a .0))) one (arcMinutes (a .0)) (judged-again 9 (isOther n (a .0))) (a .1) x rest (a .3 .below) (a .4) in
+    let a = after-again (number 9 (isNode n)) just (arcHead n) (judged-again 9 (isNode n)) bs x rest B e in
+    let b = after-again (number 9 (isOther n (a .0))) just (arcMinutes (a .0)) (judged-again 9 (isOther n (a .0))) (a .1) x rest (a .3 .below) (a .4) in
     let make : ℕ → Arc = λ w. record { tail = a .0; head = b .0; weight = w } in
-    let c = after-again (number 10 isMinutes) one (λ w rest. got (make w) rest) (judged-again 10 isMinutes) (b .1) x rest (b .3 .below) (b .4) in
+    let c = after-again (number 10 isMinutes) just (λ w rest. got (make w) rest) (judged-again 10 isMinutes) (b .1) x rest (b .3 .below) (b .4) in
     let z = got-both (make (c .0)) x (c .1) rest (c .4) in
-    subst (λ (x : Arc). Numbers (arcNumbers x) bs rest) (z .0) (join (a .3) (join (b .3) (subst (Numbers (one (c .0)) (b .1)) (z .1) (c .3))))
+    subst (λ (x : Arc). Numbers (arcNumbers x) bs rest) (z .0) (join (a .3) (join (b .3) (subst (Numbers (just (c .0)) (b .1)) (z .1) (c .3))))
 
 header-again : Again readHeader headerNumbers
 unfolding readHeader headerArcs headerSource headerTarget headerLimit headerNumbers
 header-again bs h rest B e =
-    let a = after-again (number 5 isNodeCount) one headerArcs (judged-again 5 isNodeCount) bs h rest B e in
+    let a = after-again (number 5 isNodeCount) just headerArcs (judged-again 5 isNodeCount) bs h rest B e in
     let n = a .0 in
-    let b = after-again (number 6 isArcCount) one (headerSource n) (judged-again 6 isArcCount) (a .1) h rest (a .3 .below) (a .4) in
-    let c = after-again (number 7 (isNode n)) one (headerTarget n (b .0)) (judged-again 7 (isNode n)) (b .1) h rest (b .3 .below) (b .4) in
+    let b = after-again (number 6 isArcCount) just (headerSource n) (judged-again 6 isArcCount) (a .1) h rest (a .3 .below) (a .4) in
+    let c = after-again (number 7 (isNode n)) just (headerTarget n (b .0)) (judged-again 7 (isNode n)) (b .1) h rest (b .3 .below) (b .4) in
     let s = c .0 in
-    let d = after-again (number 7 (isOther n s)) one (headerLimit n (b .0) s) (judged-again 7 (isOther n s)) (c .1) h rest (c .3 .below) (c .4) in
+    let d = after-again (number 7 (isOther n s)) just (headerLimit n (b .0) s) (judged-again 7 (isOther n s)) (c .1) h rest (c .3 .below) (c .4) in
     let make : ℕ → Header = λ k. record { nodes = n; arcs = b .0; source = s; target = d .0; limit = k } in
-    let k = after-again (number 8 isLimit) one (λ k rest. got (make k) rest) (judged-again 8 isLimit) (d .1) h rest (d .3 .below) (d .4) in
+    let k = after-again (number 8 isLimit) just (λ k rest. got (make k) rest) (judged-again 8 isLimit) (d .1) h rest (d .3 .below) (d .4) in
     let z = got-both (make (k .0)) h (k .1) rest (k .4) in
     subst (λ (h : Header). Numbers (headerNumbers h) bs rest) (z .0)
-    (join (a .3) (join (b .3) (join (c .3) (join (d .3) (subst (Numbers (one (k .0)) (d .1)) (z .1) (k .3))))))
+    (join (a .3) (join (b .3) (join (c .3) (join (d .3) (subst (Numbers (just (k .0)) (d .1)) (z .1) (k .3))))))
 
 -- the sheet that its parts make
 abbrev pub made : Header → List Arc → List ℕ → Sheet
@@ -105,7 +105,7 @@ sheet-again bs S rest B e =
     let f = after-again (several (readArc n) (h .arcs)) flat (readMarks h) arcs (a .1) S rest (a .3 .below) (a .4) in
     let xs = f .0 in
     let k = n + length xs in
-    let marks : Again (several readMark k) (λ (ms : List ℕ). ms) = several-again readMark one (λ (ms : List ℕ). ms) one-rows (judged-again 11 isMark) k in
+    let marks : Again (several readMark k) (λ (ms : List ℕ). ms) = several-again readMark just (λ (ms : List ℕ). ms) just-rows (judged-again 11 isMark) k in
     let g = after-again (several readMark k) (λ (ms : List ℕ). ms) (λ ms rest. got (made h xs ms) rest) marks (f .1) S rest (f .3 .below) (f .4) in
     let z = got-both (made h xs (g .0)) S (g .1) rest (g .4) in
     let m : length xs ≡ h .arcs = several-got (λ x. Unit {0}) (readArc n) (λ bs a rest q. tt) (h .arcs) (a .1) xs (f .1) (f .2) .0 in

@@ -7,7 +7,7 @@ use mathlib.Core.List.{List, [], _∷_, _++_, append-assoc, append-nil}
 use lib.ListN.{length}
 use Rattle.lists.specs.Lists.{pick}
 use Rattle.lists.proofs.Pigeonhole.{Below, below-parts}
-use Rattle.lists.proofs.RowLaws.{Rows}
+use Rattle.lists.proofs.RowLaws.{Rows, just, just-rows}
 use Rattle.varint.proofs.VarintLaws.{number-back}
 use Rattle.varint.specs.Varint.{Read, got, refuse, after, judged, number, several, writeNumbers}
 use Rattle.walks.specs.Graph.{Arc}
@@ -44,14 +44,11 @@ module _ {A C : Type 0} {r : Read A} (e : ℕ) (a : A) (bs : List ℕ) (p : r �
 abbrev pub Back : {A : Type 0} → (List ℕ → Read A) → (A → List ℕ) → (A → ℕ) → Type 0
 Back {A} f g F = (a : A) (xs : List ℕ) → Below 268435456 (g a) → f (writeNumbers (g a ++ xs)) ≡ faulted (F a) (got a (writeNumbers xs))
 
--- the numbers of a number, and of an arc
-abbrev pub one : ℕ → List ℕ
-one x = x ∷ []
-
+-- the numbers of an arc
 abbrev pub arcNumbers : Arc → List ℕ
 arcNumbers x = x .tail ∷ x .head ∷ x .weight ∷ []
 
-number-judged : (e : ℕ) (ok : ℕ → Bool) → Back (number (suc e) ok) one (λ x. fault (suc e) (ok x))
+number-judged : (e : ℕ) (ok : ℕ → Bool) → Back (number (suc e) ok) just (λ x. fault (suc e) (ok x))
 unfolding number judged after writeNumbers fault faulted
 number-judged e ok x xs B = rw (number-back x (writeNumbers xs) (B .0)) (go (ok x))
   where
@@ -102,13 +99,10 @@ several-back f g F row back R (a ∷ xs) t B =
     (λ a bs₁. after (several f (length xs) bs₁) (λ xs bs₂. got (a ∷ xs) bs₂)) (faults F xs) _
     (then-last (faults F xs) xs (writeNumbers t) (several-back f g F row back R xs t (b .1)) (λ xs bs₂. got (a ∷ xs) bs₂))
 
--- the arcs' numbers are the arcs in a row, and the marks are marks in a row
+-- the arcs' numbers are the arcs in a row
 pub flat-rows : Rows arcNumbers flat
 unfolding flat
 flat-rows = record { empty = refl; first = λ x xs. refl }
-
-pub one-rows : Rows one (λ (xs : List ℕ). xs)
-one-rows = record { empty = refl; first = λ x xs. refl }
 
 arcs-faults : (n : ℕ) (xs : List ℕ) → faults (λ x. arcFault n (x .tail) (x .head) (x .weight)) (arcsOf xs) ≡ arcsFault n xs
 unfolding faults arcsOf arcsFault
@@ -130,4 +124,4 @@ arcs-back n m xs t e B =
 
 pub marks-back : (xs : List ℕ) → Below 268435456 xs → several readMark (length xs) (writeNumbers xs) ≡ faulted (marksFault xs) (got xs [])
 unfolding readMark writeNumbers
-marks-back xs B = rw (append-nil, marks-faults xs) at (several-back readMark one _ (λ (xs : List ℕ). xs) (number-judged 10 isMark) one-rows xs [] B)
+marks-back xs B = rw (append-nil, marks-faults xs) at (several-back readMark just _ (λ (xs : List ℕ). xs) (number-judged 10 isMark) just-rows xs [] B)

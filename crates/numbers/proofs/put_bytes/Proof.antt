@@ -2,30 +2,21 @@
 use borrow.Author.Needs.{needs}
 use Prim.Native.Nat.{ℕ, _-_}
 use mathlib.Core.Path.{refl}
-use mathlib.Core.List.{List, [], _∷_}
+use mathlib.Core.List.{List}
 use native.Mathlib.Omega.{arith}
 use lib.ListN.{length}
-use Rattle.lists.proofs.RowLaws.{Rows, Row, begun, row-kept, row-store-within, row-store, row-done}
+use Rattle.lists.proofs.RowLaws.{just, just-rows, Row, begun, row-kept, row-store-within, row-store, row-done}
 use Rattle.numbers.proofs.put_bytes.Statement.{statement}
 use Rattle.numbers.proofs.put_bytes.Tie as tie
 
-abbrev byte : ℕ → List ℕ
-byte x = x ∷ []
-
-abbrev row : List ℕ → List ℕ
-row xs = xs
-
-byte-rows : Rows byte row
-byte-rows = record { empty = refl; first = λ x xs. refl }
-
 abbrev Inv-loop : tie.InvT-loop
-Inv-loop out₀ copied i₀ out i = Row byte row copied out₀ out i i
+Inv-loop out₀ copied i₀ out i = Row just (λ (xs : List ℕ). xs) copied out₀ out i i
 
 abbrev μ-loop : tie.MeasureT-loop
 μ-loop out₀ copied i₀ out i = length copied - i
 
 loop-holds : tie.Need-loop-holds Inv-loop μ-loop
-loop-holds c = begun _ _ byte-rows (c .pre)
+loop-holds c = begun _ _ just-rows (c .pre)
 
 shared-slice-read-out : tie.Need-shared-slice-read-out Inv-loop μ-loop
 shared-slice-read-out c = search needs
