@@ -1,9 +1,11 @@
 // Runs the lines of document 01, 'The sheet B and what it gives', through pass, reason and check, and prints what each gives. The work and the slip
-// are lent longer than asked for and filled before the call, so that what is left as found can be seen. Then views of arcs, and sheets that are written.
+// are lent longer than asked for and filled before the call, so that what is left as found can be seen. Then views of arcs, sheets that are written, and
+// numbers with and without bytes behind them.
 ghost use Prim.Native.Nat.{_≤_};
 use libc::STDOUT_FILENO;
 use sheet::Header;
 use sheet_reader::SheetRead;
+use varint::Number;
 use walks::ARC_NUMBERS;
 use walks::ITEMS;
 use work::Answer;
@@ -529,6 +531,59 @@ fn unwritten_legs() {
     show_write(b"Places 1 to 9 must, empty slice", row, &in_a_row, &must, 0);
 }
 
+// Prints what the reader gives for the number at the front of the bytes.
+fn show_read(number: Number) {
+    match number {
+        Number::Got(value, end) => {
+            io::print_decimal(STDOUT_FILENO, value as u64);
+            io::write_all(STDOUT_FILENO, b", ");
+            io::print_decimal(STDOUT_FILENO, end as u64);
+            io::write_all(STDOUT_FILENO, b" bytes");
+        }
+        Number::Ends => {
+            io::write_all(STDOUT_FILENO, b"refused 3");
+        }
+        Number::Overlong => {
+            io::write_all(STDOUT_FILENO, b"refused 4");
+        }
+    }
+}
+
+// Prints a line: the bytes, and the value of the number at their front with the count of bytes that it took, or the refusal.
+fn show_number(bytes: &[u8]) {
+    io::write_all(STDOUT_FILENO, b"Number");
+    print_bytes(bytes, bytes.len());
+    io::write_all(STDOUT_FILENO, b": ");
+    show_read(varint::number_at(bytes, 0));
+    io::write_all(STDOUT_FILENO, b"\n");
+}
+
+// Numbers that end: more bytes behind them alter nothing.
+fn numbers() {
+    show_number(b"\x80\x01");
+    show_number(b"\x80\x01\xFF\x00\x7F");
+    show_number(b"\xFF\xFF\xFF\x7F");
+    show_number(b"\xFF\xFF\xFF\x7F\xFF\x00\x7F");
+}
+
+// Numbers that are badly written: nor do they here.
+fn overlong_numbers() {
+    show_number(b"\x80\x00");
+    show_number(b"\x80\x00\xFF\x00\x7F");
+    show_number(b"\x81\x00\x80\x00");
+    show_number(b"\x81\x00\x80\x00\xFF\x00\x7F");
+    show_number(b"\x80\x80\x80\x80");
+    show_number(b"\x80\x80\x80\x80\xFF\x00\x7F");
+}
+
+// Numbers of which the bytes end first: more bytes are asked for, and decide.
+fn unended_numbers() {
+    show_number(b"\x80");
+    show_number(b"\x80\xFF\x00\x7F");
+    show_number(b"\x80\x80\x80");
+    show_number(b"\x80\x80\x80\xFF\x00\x7F");
+}
+
 fn main() {
     starred_rounds();
     starred_refusals();
@@ -543,4 +598,7 @@ fn main() {
     written_sheets();
     unwritten_sheets();
     unwritten_legs();
+    numbers();
+    overlong_numbers();
+    unended_numbers();
 }

@@ -3,16 +3,15 @@
 -- zero is needless, so that writing goes on as reading did. Assumes nothing.
 use Prim.Native.Nat.{ℕ, zero, suc, _+_, _-_, _*_, _/_, _%_, _≤_, _<_}
 use mathlib.Core.Path.{_≡_, refl, ap, _∙_}
-use mathlib.Core.Bool.{Bool, true, false}
+use mathlib.Core.Bool.{Bool, true, false, _&&_}
 use mathlib.Core.List.{List, [], _∷_, _++_}
 use native.Mathlib.Omega.{arith}
-use lib.Dec.{ltb}
+use lib.Dec.{eqb, ltb}
 use borrow.Author.Tests.{le-ltb, ltb-true, ltb-false}
 use Rattle.lists.specs.Lists.{pick}
 use Rattle.lists.proofs.Pigeonhole.{Below}
 use Rattle.varint.proofs.ReadLaws.{weights, weights-some, last-needless}
 use Rattle.varint.proofs.WriteLaws.{groups-last}
-use Rattle.varint.proofs.VarintLaws.{last-got}
 use Rattle.varint.specs.Varint.{Read, got, refuse, lastGroup, above, readGroups, readNumber, writeGroups, writeNumber}
 
 -- what was read of a number of which `left` groups might follow the first: its bytes, its size, and that its last group is not needless
@@ -20,6 +19,14 @@ record Again (left : ℕ) (bs : List ℕ) (x : ℕ) (rest : List ℕ) : Type 0 w
   bytes : bs ≡ writeGroups left x ++ rest
   small : x < weights (suc left)
   some : left < 3 → 0 < x
+
+last-got : (left b : ℕ) (bs : List ℕ) (x : ℕ) (rest : List ℕ) → lastGroup left b bs ≡ got x rest → (x ≡ b) × (rest ≡ bs)
+unfolding lastGroup
+last-got left b bs x rest e = go (eqb b 0 && ltb left 3) e
+  where
+    go : (t : Bool) → pick t (refuse 4) (got b bs) ≡ got x rest → (x ≡ b) × (rest ≡ bs)
+    go true q = absurd (let z : _≡_ {A = ℕ} 0 1 = cc in omega arith)
+    go false q = (cc, cc)
 
 last-some : (left b : ℕ) (bs : List ℕ) (x : ℕ) (rest : List ℕ) → lastGroup left b bs ≡ got x rest → left < 3 → 0 < b
 last-some left zero bs x rest e h = absurd (let r = last-needless left zero bs refl h in let z : _≡_ {A = ℕ} 0 1 = cc in omega arith)

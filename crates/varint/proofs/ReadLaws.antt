@@ -9,7 +9,9 @@ use native.Mathlib.Omega.{arith}
 use lib.ListN.{length, getD, drop, drop-of-length-le}
 use lib.Seq.{drop-cons}
 use borrow.Author.Tests.{lt-ltb, le-ltb, ne-eqb}
+use Rattle.varint.specs.declared.Number.the-variants.{Got, Ends, Overlong}
 use Rattle.varint.specs.Varint.{Read, got, refuse, lastGroup, above, readGroups, readNumber}
+use Rattle.varint.specs.Decided.{Allowed}
 
 -- what is read where groups with the value `sum` stand before, and the next group has the weight `scale`
 abbrev pub below : ℕ → ℕ → Read ℕ → Read ℕ
@@ -84,21 +86,22 @@ begun s at =
     }
 
 module _ {s : List ℕ} {at i left scale sum : ℕ} (r : Reading s at i left scale sum) where
-  pub ends : length s ≤ i → refuse 3 ≡ readNumber (drop at s)
-  ends h = sym (r .same ∙ simp (groups-none s i left h))
+  pub ends : length s ≤ i → Allowed s at Ends
+  ends h = (sym (r .same ∙ simp (groups-none s i left h)), omega arith)
 
-  pub too-many : i < length s → 128 ≤ getD s i 0 → left ≡ 0 → refuse 4 ≡ readNumber (drop at s)
-  too-many h l z = sym (r .same ∙ simp (z, groups-over s i h l))
+  pub too-many : i < length s → 128 ≤ getD s i 0 → left ≡ 0 → Allowed s at Overlong
+  too-many h l z = (sym (r .same ∙ simp (z, groups-over s i h l)), omega arith)
 
-  pub needless : i < length s → getD s i 0 ≡ 0 → left < 3 → refuse 4 ≡ readNumber (drop at s)
+  pub needless : i < length s → getD s i 0 ≡ 0 → left < 3 → Allowed s at Overlong
   needless h z l =
       let e : readGroups left (drop i s) ≡ lastGroup left (getD s i 0) (drop (suc i) s) = groups-last s i left h (omega arith) in
-      sym (r .same ∙ ap (below sum scale) (e ∙ last-needless left (getD s i 0) _ z l))
+      (sym (r .same ∙ ap (below sum scale) (e ∙ last-needless left (getD s i 0) _ z l)), omega arith)
 
-  pub gives :
-      i < length s → getD s i 0 < 128 → (getD s i 0 ≡ 0 → 3 ≤ left) → got (sum + scale * getD s i 0) (drop (i + 1) s) ≡ readNumber (drop at s)
-  gives h l f =
-      rw (add-one i) (sym (r .same ∙ ap (below sum scale) (groups-last s i left h l ∙ last-kept left (getD s i 0) (drop (suc i) s) f)))
+  pub gives : i < length s → getD s i 0 < 128 → (getD s i 0 ≡ 0 → 3 ≤ left) → Allowed s at (Got (sum + scale * getD s i 0) (i + 1))
+  gives h l f = (
+    rw (add-one i) (sym (r .same ∙ ap (below sum scale) (groups-last s i left h l ∙ last-kept left (getD s i 0) (drop (suc i) s) f))),
+    omega arith,
+  )
 
 pub more :
     {s : List ℕ} {at i scale sum : ℕ} (left : ℕ) → Reading s at i left scale sum → i < length s → 128 ≤ getD s i 0 → getD s i 0 < 256 → (left ≡ 0 → ⊥)

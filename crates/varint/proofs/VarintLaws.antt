@@ -1,16 +1,17 @@
 -- A number written reads back as itself with any bytes after it, and what was read does not depend on the bytes after it. Assumes nothing.
 use Prim.Native.Nat.{ℕ, zero, suc, _+_, _-_, _*_, _/_, _%_, _≤_, _<_}
 use mathlib.Core.Path.{_≡_, refl, sym, ap, _∙_, subst}
-use mathlib.Core.Bool.{Bool, true, false, _&&_}
+use mathlib.Core.Bool.{Bool, true, false}
 use mathlib.Core.List.{List, [], _∷_, _++_, append-assoc}
 use native.Mathlib.Omega.{arith}
 use lib.ListN.{length, length-append}
-use lib.Dec.{eqb, ltb}
+use lib.Dec.{ltb}
 use borrow.Author.Tests.{ltb-true, ltb-false, le-ltb, lt-ltb}
 use Rattle.lists.specs.Lists.{pick}
 use Rattle.lists.proofs.Pigeonhole.{Below, below-append}
 use Rattle.varint.proofs.ReadLaws.{last-kept, weights}
-use Rattle.varint.specs.Varint.{Read, got, refuse, after, lastGroup, above, readGroups, readNumber, judged, number, several, writeGroups, writeNumber, writeNumbers}
+use Rattle.varint.proofs.DecidedLaws.{number-decided}
+use Rattle.varint.specs.Varint.{Read, got, refuse, after, above, readGroups, readNumber, judged, number, several, writeGroups, writeNumber, writeNumbers}
 
 groups-back : (k x : ℕ) (t : List ℕ) → x < weights (suc k) → (x ≡ 0 → 3 ≤ k) → readGroups k (writeGroups k x ++ t) ≡ got x t
 unfolding readGroups writeGroups above
@@ -37,43 +38,11 @@ pub record Front {A : Type 0} (f : List ℕ → Read A) (bs : List ℕ) (x : A) 
   pub parts : bs ≡ bytes ++ rest
   pub again : (t : List ℕ) → f (bytes ++ t) ≡ got x t
 
-pub last-got : (left b : ℕ) (bs : List ℕ) (x : ℕ) (rest : List ℕ) → lastGroup left b bs ≡ got x rest
-    → (x ≡ b) × (rest ≡ bs) × ((t : List ℕ) → lastGroup left b t ≡ got x t)
-unfolding lastGroup
-last-got left b bs x rest e = go (eqb b 0 && ltb left 3) e
-  where
-    go : (t : Bool) → pick t (refuse 4) (got b bs) ≡ got x rest → (x ≡ b) × (rest ≡ bs) × ((t′ : List ℕ) → pick t (refuse 4) (got b t′) ≡ got x t′)
-    go true q = absurd (let z : _≡_ {A = ℕ} 0 1 = cc in omega arith)
-    go false q = let z : b ≡ x = cc in (sym z, cc, λ t. rw z)
-
-groups-front : (left : ℕ) (bs : List ℕ) (x : ℕ) (rest : List ℕ) → readGroups left bs ≡ got x rest → Front (readGroups left) bs x rest
-unfolding readGroups above
-groups-front left [] x rest e = absurd (let z : _≡_ {A = ℕ} 0 1 = cc in omega arith)
-groups-front zero (b ∷ bs) x rest e = go (ltb b 128) refl e
-  where
-    go : (t : Bool) → ltb b 128 ≡ t → pick t (lastGroup zero b bs) (refuse 4) ≡ got x rest → Front (readGroups zero) (b ∷ bs) x rest
-    go true q e′ = let s = last-got zero b bs x rest e′ in record { bytes = b ∷ []; parts = rw (s .1); again = λ t. rw q (s .2 t) }
-    go false q e′ = absurd (let z : _≡_ {A = ℕ} 0 1 = cc in omega arith)
-groups-front (suc left) (b ∷ bs) x rest e = go (ltb b 128) refl e (groups-front left bs)
-  where
-    more : ltb b 128 ≡ false → (r : Read ℕ) → readGroups left bs ≡ r → above b r ≡ got x rest
-        → ((x : ℕ) (rest : List ℕ) → readGroups left bs ≡ got x rest → Front (readGroups left) bs x rest) → Front (readGroups (suc left)) (b ∷ bs) x rest
-    more q (got y cs) p e′ ih =
-        let s : b - 128 + 128 * y ≡ x = cc in
-        let z : cs ≡ rest = cc in
-        let i = ih y rest (p ∙ ap (got y) z) in
-        record { bytes = b ∷ i .bytes; parts = ap (b ∷_) (i .parts); again = λ t. rw (q, i .again t, s) }
-    more q (refuse w) p e′ ih = absurd (let z : _≡_ {A = ℕ} 0 1 = cc in omega arith)
-
-    go : (t : Bool) → ltb b 128 ≡ t → pick t (lastGroup (suc left) b bs) (above b (readGroups left bs)) ≡ got x rest
-        → ((x : ℕ) (rest : List ℕ) → readGroups left bs ≡ got x rest → Front (readGroups left) bs x rest) → Front (readGroups (suc left)) (b ∷ bs) x rest
-    go true q e′ ih = let s = last-got (suc left) b bs x rest e′ in record { bytes = b ∷ []; parts = rw (s .1); again = λ t. rw q (s .2 t) }
-    go false q e′ ih = more q (readGroups left bs) refl e′ ih
-
 -- once a number is read, no later byte alters it
 pub number-front : (bs : List ℕ) (x : ℕ) (rest : List ℕ) → readNumber bs ≡ got x rest → Front readNumber bs x rest
-unfolding readNumber
-number-front bs x rest e = let s = groups-front 3 bs x rest e in record { bytes = s .bytes; parts = s .parts; again = s .again }
+number-front bs x rest e =
+    let d = number-decided bs x rest e in
+    record { bytes = d .0 .bytes; parts = d .0 .parts ∙ ap (d .0 .bytes ++_) (d .1); again = d .0 .again }
 
 -- reading on: where the whole gives a value, the first part gave one and the next went on from it
 pub after-got : {A B : Type 0} (r : Read A) (f : A → List ℕ → Read B) (b : B) (rest : List ℕ) → after r f ≡ got b rest

@@ -21,7 +21,9 @@ fn wide(byte: u8) -> u32
     byte as u32
 }
 
-// Reads the number at `at`. It is built as its bytes arrive: `sum` is the value of the groups so far and `scale` the weight of the next one.
+// Reads the number at `at`. It is built as its bytes arrive, with no buffer: `sum` is the value of the groups so far and `scale` the weight of the next
+// one. Once a number or `Overlong` is given, no byte behind the one that gave it can alter that: `call-decided` and `call-overlong` say it of each answer
+// that the contract allows, and it allows one (`allowed-one`).
 pub fn number_at(bytes: &[u8], at: usize) -> Number
     ensures { λ r. ⌜ (readOf (now (bytes .entry)) r ≡ readNumber (drop at (now (bytes .entry)))) × (endOf r ≤ length (now (bytes .entry))) ⌝ }
 {

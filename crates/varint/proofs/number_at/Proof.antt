@@ -26,7 +26,7 @@ wide-requires : tie.Need-wide-requires Inv-loop μ-loop
 wide-requires c κs = search needs
 
 returns : tie.Need-returns Inv-loop μ-loop
-returns c = (needless (c .before .before .before .before .before .before .loop .inv) (c .before .before .before .before .before .loop-test .taken) (sym (c .before .before .before .wide .ensures .0) ∙ c .before .if2 .taken) (omega (arith, c .if3 .taken)), omega arith)
+returns c = needless (c .before .before .before .before .before .before .loop .inv) (c .before .before .before .before .before .loop-test .taken) (sym (c .before .before .before .wide .ensures .0) ∙ c .before .if2 .taken) (omega (arith, c .if3 .taken))
 
 mul-t14 : tie.Need-mul-t14 Inv-loop μ-loop
 mul-t14 c = omega (arith, product-low {b = c .before .before .wide .result} (c .before .before .before .before .before .loop .inv) (omega arith))
@@ -39,15 +39,13 @@ add-t16 c = omega arith
 
 returns-2 : tie.Need-returns-2 Inv-loop μ-loop
 returns-2 c =
-    let w = c .before .before .wide .ensures .0 in (
-      rw w
-          (gives (c .before .before .before .before .before .loop .inv) (c .before .before .before .before .loop-test .taken) (rw w at (c .before .if1 .taken))
-          (λ z. ⊎-elim (λ h. h .1 .left) (λ h. absurd (h .left (w ∙ z))) (c .if2 .came))),
-      omega arith,
-    )
+    let w = c .before .before .wide .ensures .0 in
+    rw w
+    (gives (c .before .before .before .before .before .loop .inv) (c .before .before .before .before .loop-test .taken) (rw w at (c .before .if1 .taken))
+    (λ z. ⊎-elim (λ h. h .1 .left) (λ h. absurd (h .left (w ∙ z))) (c .if2 .came)))
 
 returns-3 : tie.Need-returns-3 Inv-loop μ-loop
-returns-3 c = (too-many (c .before .before .before .before .before .loop .inv) (c .before .before .before .before .loop-test .taken) (rw (c .before .before .wide .ensures .0) at (c .before .if1 .left)) (c .if4 .taken), omega arith)
+returns-3 c = too-many (c .before .before .before .before .before .loop .inv) (c .before .before .before .before .loop-test .taken) (rw (c .before .before .wide .ensures .0) at (c .before .if1 .left)) (c .if4 .taken)
 
 mul-sum : tie.Need-mul-sum Inv-loop μ-loop
 mul-sum c = omega (arith, product-low {b = c .before .before .wide .result - 128} (c .before .before .before .before .before .loop .inv) (omega (arith, c .before .before .wide .ensures .1)))
@@ -73,7 +71,7 @@ loop-again c =
     rw w (more _ (c .before .before .before .before .before .loop .inv) (c .before .before .before .before .loop-test .taken) (rw w at (c .before .if1 .left)) (rw w at (c .before .before .wide .ensures .1)) (c .if4 .left))
 
 returns-4 : tie.Need-returns-4 Inv-loop μ-loop
-returns-4 c = (ends (c .before .loop .inv) (c .loop-test .left), omega arith)
+returns-4 c = ends (c .before .loop .inv) (c .loop-test .left)
 
 pub number-at-spec : {M : Type 1} → statement M
 number-at-spec =
