@@ -1,0 +1,113 @@
+//! Once a number is read or 4 is drawn, no later byte alters that: a sheet with one bad number, cut off at every byte, and with other bytes behind the one
+//! that decides.
+
+use cases::{draw, number, Random, Sheet, KINDS};
+use tests::{hex, Call, Desk, REFUSED};
+use ways::{SLIP_BYTES, WORK_BYTES};
+
+const SHEETS: usize = 400;
+
+/// Bytes behind the deciding one that are changed one by one, at most.
+const CHANGED: usize = 40;
+
+const BADLY_WRITTEN: u32 = 4;
+
+fn refusal(desk: &mut Desk, bytes: &[u8]) -> u32 {
+    desk.call(Call::Pass(SLIP_BYTES), bytes, WORK_BYTES) / REFUSED
+}
+
+fn any_bytes(count: usize, random: &mut Random) -> Vec<u8> {
+    (0..count).map(|_| random.bits() as u8).collect()
+}
+
+/// A number that draws 4 at its last byte: a needless group of zero, or a fourth byte with its high bit set.
+fn overlong(random: &mut Random) -> Vec<u8> {
+    let groups = random.between(1, 4);
+    let mut bytes: Vec<u8> = any_bytes(groups, random).into_iter().map(|byte| byte | 128).collect();
+    if groups < 4 {
+        bytes.push(0);
+    }
+    bytes
+}
+
+/// The bytes of a sheet with another number at a place, and how many of them it takes to the end of that number.
+fn with_number(sheet: &Sheet, at: usize, written: Vec<u8>) -> (Vec<u8>, usize) {
+    let mut numbers: Vec<Vec<u8>> = sheet.numbers().into_iter().map(number).collect();
+    numbers[at] = written;
+    (numbers.concat(), numbers[..=at].concat().len())
+}
+
+/// The refusal is drawn at the last of the first `end` bytes, 3 before it, and nothing behind them alters it.
+fn is_decided(desk: &mut Desk, random: &mut Random, bytes: &[u8], end: usize, expected: u32) {
+    let first = (0..=bytes.len()).find(|&cut| refusal(desk, &bytes[..cut]) != 3);
+    assert_eq!(first, Some(end), "where {expected} comes first\n{}", hex(bytes));
+    let mut holds = |behind: &[u8]| {
+        let other = [&bytes[..end], behind].concat();
+        assert_eq!(refusal(desk, &other), expected, "{end} bytes decide\n{}", hex(&other));
+    };
+    let rest = &bytes[end..];
+    holds(&[]);
+    holds(rest);
+    for at in (0..rest.len()).step_by(rest.len() / CHANGED + 1) {
+        for byte in [0, 1, 0x7f, 0x80, 0xff, rest[at] ^ 0x80, random.bits() as u8] {
+            let mut changed = rest.to_vec();
+            changed[at] = byte;
+            holds(&changed);
+        }
+    }
+    for count in [1, 2, 3, 9, rest.len()] {
+        let any = any_bytes(count, random);
+        holds(&any);
+        holds(&[rest, &any].concat());
+        holds(&vec![0; count]);
+        holds(&vec![0x80; count]);
+    }
+}
+
+#[test]
+fn nothing_behind_a_badly_written_number_alters_4() {
+    let mut desk = Desk::new(31);
+    let mut random = Random::new(31);
+    let mut by_length = [0; 5];
+    for i in 0..SHEETS {
+        let sheet = draw(KINDS[i % KINDS.len()], &mut random);
+        let count = sheet.numbers().len();
+        let places = random.pick(&[count, count.min(8)]);
+        let at = random.below(places);
+        let written = overlong(&mut random);
+        by_length[written.len()] += 1;
+        let (bytes, end) = with_number(&sheet, at, written);
+        is_decided(&mut desk, &mut random, &bytes, end, BADLY_WRITTEN);
+    }
+    println!("badly written numbers by length {:?}, passes {}", &by_length[2..], desk.calls[0]);
+    assert!(by_length[2..].iter().all(|&count| count > 0));
+}
+
+/// The place of a header's number, a value that is refused there, and the refusal.
+fn wrong_header(sheet: &Sheet, random: &mut Random) -> (usize, u32, u32) {
+    let no_node = sheet.nodes + random.pick(&[0, 1, 64, 200, 20_000]);
+    match random.below(6) {
+        0 => (0, random.pick(&[0, 1, 65, 128, 16_384, 268_435_455]), 5),
+        1 => (1, random.pick(&[513, 16_384, 2_097_152, 268_435_455]), 6),
+        2 => (2, no_node, 7),
+        3 => (3, no_node, 7),
+        4 => (3, sheet.source, 7),
+        _ => (4, random.pick(&[1_000_001, 2_097_152, 268_435_455]), 8),
+    }
+}
+
+#[test]
+fn nothing_behind_a_headers_number_alters_its_refusal() {
+    let mut desk = Desk::new(32);
+    let mut random = Random::new(32);
+    let mut by_refusal = [0; 9];
+    for i in 0..SHEETS {
+        let sheet = draw(KINDS[i % KINDS.len()], &mut random);
+        let (at, value, expected) = wrong_header(&sheet, &mut random);
+        by_refusal[expected as usize] += 1;
+        let (bytes, end) = with_number(&sheet, at, number(value));
+        is_decided(&mut desk, &mut random, &bytes, end, expected);
+    }
+    println!("refusals 5 to 8 by number {:?}, passes {}", &by_refusal[5..], desk.calls[0]);
+    assert!(by_refusal[5..].iter().all(|&count| count > 0));
+}
