@@ -82,8 +82,9 @@ enum ways_verdict {
 };
 
 /* Why a call was refused. They are judged in this order, 3 to 11 number by number as the sheet is
- * read: a number is read to its end, then judged, and then the next is begun. ways_write judges the
- * same numbers in the same order, but that 3 comes behind 8. Which call draws which:
+ * read: a number is read to its end, then judged, and then the next is begun. Badly written, it
+ * draws 4 at the byte that makes it so, whatever stands behind. ways_write judges the same numbers
+ * in the same order, but that 3 comes behind 8. Which call draws which:
  *
  *   ways_pass     1 to 14
  *   ways_reason   1 to 16
