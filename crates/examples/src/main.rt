@@ -566,7 +566,7 @@ fn numbers() {
     show_number(b"\xFF\xFF\xFF\x7F\xFF\x00\x7F");
 }
 
-// Numbers that are badly written: nor do they here.
+// Numbers that are badly written: more bytes behind them alter nothing.
 fn overlong_numbers() {
     show_number(b"\x80\x00");
     show_number(b"\x80\x00\xFF\x00\x7F");

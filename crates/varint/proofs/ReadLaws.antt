@@ -2,11 +2,13 @@
 -- case of `readGroups`, and the groups read so far are a sum and the weight of the next group. Assumes nothing.
 use Prim.Native.Nat.{ℕ, zero, suc, _+_, _-_, _*_, _≤_, _<_}
 use mathlib.Core.Path.{_≡_, refl, ap, sym, _∙_}
-use mathlib.Core.List.{List}
+use mathlib.Core.Bool.{true}
+use mathlib.Core.List.{List, [], _∷_}
 use native.Mathlib.Nat.{mul-add, mul-assoc, le-mul-of-pos-right, zero-add, one-mul, mul-le-mul-left, mul-le-mul}
 use native.Mathlib.Numerals.{add-one}
 use native.Mathlib.Omega.{arith}
 use lib.ListN.{length, getD, drop, drop-of-length-le}
+use lib.Dec.{ltb}
 use lib.Seq.{drop-cons}
 use borrow.Author.Tests.{lt-ltb, le-ltb, ne-eqb}
 use Rattle.varint.specs.declared.Number.the-variants.{Got, Ends, Overlong}
@@ -29,15 +31,21 @@ below-above sum scale b (got x bs) =
     ap (λ (y : ℕ). got y bs) p
 below-above sum scale b (refuse e) = refl
 
-groups-none : (s : List ℕ) (i left : ℕ) → length s ≤ i → readGroups left (drop i s) ≡ refuse 3
+pub none-yet : (left : ℕ) → readGroups left [] ≡ refuse 3
 unfolding readGroups
-groups-none s i zero h = rw (drop-of-length-le s h)
-groups-none s i (suc left) h = rw (drop-of-length-le s h)
+none-yet zero = refl
+none-yet (suc left) = refl
+
+groups-none : (s : List ℕ) (i left : ℕ) → length s ≤ i → readGroups left (drop i s) ≡ refuse 3
+groups-none s i left h = rw (drop-of-length-le s h) (none-yet left)
+
+pub at-last : (left b : ℕ) (bs : List ℕ) → ltb b 128 ≡ true → readGroups left (b ∷ bs) ≡ lastGroup left b bs
+unfolding readGroups
+at-last zero b bs q = rw q
+at-last (suc left) b bs q = rw q
 
 groups-last : (s : List ℕ) (i left : ℕ) → i < length s → getD s i 0 < 128 → readGroups left (drop i s) ≡ lastGroup left (getD s i 0) (drop (suc i) s)
-unfolding readGroups
-groups-last s i zero h l = rw (drop-cons s i 0 h) (simp (lt-ltb _ _ l))
-groups-last s i (suc left) h l = rw (drop-cons s i 0 h) (simp (lt-ltb _ _ l))
+groups-last s i left h l = rw (drop-cons s i 0 h) (at-last left (getD s i 0) (drop (suc i) s) (lt-ltb _ _ l))
 
 groups-over : (s : List ℕ) (i : ℕ) → i < length s → 128 ≤ getD s i 0 → readGroups 0 (drop i s) ≡ refuse 4
 unfolding readGroups

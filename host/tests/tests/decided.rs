@@ -10,8 +10,6 @@ const SHEETS: usize = 400;
 /// Bytes behind the deciding one that are changed one by one, at most.
 const CHANGED: usize = 40;
 
-const BADLY_WRITTEN: u32 = 4;
-
 fn refusal(desk: &mut Desk, bytes: &[u8]) -> u32 {
     desk.call(Call::Pass(SLIP_BYTES), bytes, WORK_BYTES) / REFUSED
 }
@@ -64,50 +62,52 @@ fn is_decided(desk: &mut Desk, random: &mut Random, bytes: &[u8], end: usize, ex
     }
 }
 
-#[test]
-fn nothing_behind_a_badly_written_number_alters_4() {
-    let mut desk = Desk::new(31);
-    let mut random = Random::new(31);
-    let mut by_length = [0; 5];
+/// A number of a sheet that is refused: its place, its bytes and the refusal.
+type Bad = (usize, Vec<u8>, u32);
+
+/// Seeded sheets with one bad number each, all decided at its last byte. Gives how long the numbers were, with their refusals.
+fn all_decided(seed: u64, bad: fn(&Sheet, &mut Random) -> Bad) -> Vec<(usize, u32)> {
+    let mut desk = Desk::new(seed);
+    let mut random = Random::new(seed);
+    let mut tried = vec![];
     for i in 0..SHEETS {
         let sheet = draw(KINDS[i % KINDS.len()], &mut random);
-        let count = sheet.numbers().len();
-        let places = random.pick(&[count, count.min(8)]);
-        let at = random.below(places);
-        let written = overlong(&mut random);
-        by_length[written.len()] += 1;
+        let (at, written, expected) = bad(&sheet, &mut random);
+        tried.push((written.len(), expected));
         let (bytes, end) = with_number(&sheet, at, written);
-        is_decided(&mut desk, &mut random, &bytes, end, BADLY_WRITTEN);
+        is_decided(&mut desk, &mut random, &bytes, end, expected);
     }
-    println!("badly written numbers by length {:?}, passes {}", &by_length[2..], desk.calls[0]);
-    assert!(by_length[2..].iter().all(|&count| count > 0));
+    println!("sheets {SHEETS}, passes {}", desk.calls[0]);
+    tried
 }
 
-/// The place of a header's number, a value that is refused there, and the refusal.
-fn wrong_header(sheet: &Sheet, random: &mut Random) -> (usize, u32, u32) {
+fn badly_written(sheet: &Sheet, random: &mut Random) -> Bad {
+    let count = sheet.numbers().len();
+    let places = random.pick(&[count, count.min(8)]);
+    (random.below(places), overlong(random), 4)
+}
+
+#[test]
+fn nothing_behind_a_badly_written_number_alters_4() {
+    let tried = all_decided(31, badly_written);
+    assert!((2..=4).all(|length| tried.contains(&(length, 4))));
+}
+
+fn wrong_header(sheet: &Sheet, random: &mut Random) -> Bad {
     let no_node = sheet.nodes + random.pick(&[0, 1, 64, 200, 20_000]);
-    match random.below(6) {
+    let (at, value, expected) = match random.below(6) {
         0 => (0, random.pick(&[0, 1, 65, 128, 16_384, 268_435_455]), 5),
         1 => (1, random.pick(&[513, 16_384, 2_097_152, 268_435_455]), 6),
         2 => (2, no_node, 7),
         3 => (3, no_node, 7),
         4 => (3, sheet.source, 7),
         _ => (4, random.pick(&[1_000_001, 2_097_152, 268_435_455]), 8),
-    }
+    };
+    (at, number(value), expected)
 }
 
 #[test]
 fn nothing_behind_a_headers_number_alters_its_refusal() {
-    let mut desk = Desk::new(32);
-    let mut random = Random::new(32);
-    let mut by_refusal = [0; 9];
-    for i in 0..SHEETS {
-        let sheet = draw(KINDS[i % KINDS.len()], &mut random);
-        let (at, value, expected) = wrong_header(&sheet, &mut random);
-        by_refusal[expected as usize] += 1;
-        let (bytes, end) = with_number(&sheet, at, number(value));
-        is_decided(&mut desk, &mut random, &bytes, end, expected);
-    }
-    println!("refusals 5 to 8 by number {:?}, passes {}", &by_refusal[5..], desk.calls[0]);
-    assert!(by_refusal[5..].iter().all(|&count| count > 0));
+    let tried = all_decided(32, wrong_header);
+    assert!((5..=8).all(|refusal| tried.iter().any(|&(_, drawn)| drawn == refusal)));
 }
