@@ -35,23 +35,14 @@ every-append f [] ys = refl
 every-append f (x ∷ xs) ys = rw (every-append f xs ys) (sym (and-assoc (f x) (every f xs) (every f ys)))
 
 -- the tests, in the order in which they are made
-module _ (S : Sheet) (nodes items first : ℕ) (goals reasons : List ℕ) (n : S .graph .nodes ≡ nodes) (k : itemCount (S .graph) ≡ items) where
-  pub formed-is : (a b c d e f : Bool) → a ≡ every (λ i. ltb i items) goals → b ≡ every (λ i. ltb i items) reasons → c ≡ ascends goals → d ≡ ascends reasons
-      → e ≡ goalCount first (length goals) → f ≡ (not (eqb first 3) || every (λ i. ltb i nodes) goals)
-      → (a && (b && (c && (d && (e && f))))) ≡ wellFormed S (slipFrom first goals reasons)
+module _ (S : Sheet) (items first : ℕ) (goals reasons : List ℕ) (k : itemCount (S .graph) ≡ items) where
+  pub formed-is : (a b c d e : Bool) → a ≡ every (λ i. ltb i items) goals → b ≡ every (λ i. ltb i items) reasons → c ≡ ascends goals → d ≡ ascends reasons
+      → e ≡ goalCount first (length goals) → (a && (b && (c && (d && e)))) ≡ wellFormed S (slipFrom first goals reasons)
   unfolding wellFormed
-  formed-is a b c d e f p q r s t u =
+  formed-is a b c d e p q r s t =
       let p′ : a ≡ every (λ i. ltb i (itemCount (S .graph))) goals = p ∙ ap (λ (m : ℕ). every (λ i. ltb i m) goals) (sym k) in
       let q′ : b ≡ every (λ i. ltb i (itemCount (S .graph))) reasons = q ∙ ap (λ (m : ℕ). every (λ i. ltb i m) reasons) (sym k) in
-      let u′ : f ≡ (not (eqb first 3) || every (λ i. ltb i (S .graph .nodes)) goals) = u ∙ ap (λ (m : ℕ). not (eqb first 3) || every (λ i. ltb i m) goals) (sym n) in
-      rw (every-append, ← p′, ← q′, ← r, ← s, ← t, ← u′) (sym (and-assoc a b (c && (d && (e && f)))))
-
--- the goals of a 3 are nodes; those of another first number may be any items
-pub three-nodes : {t r x : Bool} → t ≡ true → r ≡ x → r ≡ (not t || x)
-three-nodes e q = rw e q
-
-pub other-items : {t : Bool} (x : Bool) → t ≡ false → true ≡ (not t || x)
-other-items x e = rw e
+      rw (every-append, ← p′, ← q′, ← r, ← s, ← t) (sym (and-assoc a b (c && (d && e))))
 
 -- the parts of a slip that is well formed
 record Parts (S : Sheet) (first : ℕ) (goals reasons : List ℕ) : Type 0 where
@@ -68,12 +59,11 @@ parts S first goals reasons w =
     let C = ascends goals in
     let D = ascends reasons in
     let E = goalCount first (length goals) in
-    let F = not (eqb first 3) || every (λ i. ltb i (S .graph .nodes)) goals in
-    let a = and-true A (B && (C && (D && (E && F)))) (formed-is S _ _ first goals reasons refl refl A B C D E F refl refl refl refl refl refl ∙ w) in
-    let b = and-true B (C && (D && (E && F))) (a .1) in
-    let c = and-true C (D && (E && F)) (b .1) in
-    let d = and-true D (E && F) (c .1) in
-    record { goals-known = a .0; reasons-known = b .0; goals-rise = c .0; reasons-rise = d .0; counted = and-true E F (d .1) .0 }
+    let a = and-true A (B && (C && (D && E))) (formed-is S _ first goals reasons refl A B C D E refl refl refl refl refl ∙ w) in
+    let b = and-true B (C && (D && E)) (a .1) in
+    let c = and-true C (D && E) (b .1) in
+    let d = and-true D E (c .1) in
+    record { goals-known = a .0; reasons-known = b .0; goals-rise = c .0; reasons-rise = d .0; counted = d .1 }
 
 few-counted : (first count : ℕ) → goalCount first count ≡ true → count ≤ 8
 unfolding goalCount

@@ -59,11 +59,11 @@ fn count_fits(first: u32, count: usize) -> bool
     count == 1
 }
 
-// What 18 asks: known items, goals and reasons strictly ascending, the goal count, no arc among the goals of a 3.
+// What 18 asks: known items, goals and reasons strictly ascending, the goal count.
 pub fn well_formed(header: Header, first: u32, goals: &[usize], reasons: &[usize]) -> bool
     requires { ⌜ (header .nodes ≤ 64) × (header .arcs ≤ 512) ⌝ }
     ensures { λ r. let s = slipFrom first (now (goals .entry)) (now (reasons .entry)) in
-        ⌜ ((S : Sheet) → S .graph .nodes ≡ header .nodes → itemCount (S .graph) ≡ header .nodes + header .arcs → r ≡ wellFormed S s) ⌝ }
+        ⌜ ((S : Sheet) → itemCount (S .graph) ≡ header .nodes + header .arcs → r ≡ wellFormed S s) ⌝ }
 {
     let items = header.nodes + header.arcs;
     if !lists::all_below(goals, items) {
@@ -78,23 +78,17 @@ pub fn well_formed(header: Header, first: u32, goals: &[usize], reasons: &[usize
     if !lists::ascending(reasons) {
         return false;
     }
-    if !count_fits(first, goals.len()) {
-        return false;
-    }
-    if first == 3 {
-        return lists::all_below(goals, header.nodes);
-    }
-    true
+    count_fits(first, goals.len())
 }
 
-// Whether each of the goals is a required node.
+// Whether each of the goals is a required item.
 fn all_required(header: Header, arcs: &[u32], marks: &[u8], goals: &[usize]) -> bool
     requires { ⌜ Whole header (now arcs) (now marks) ⌝ }
     ensures { λ r. ⌜ r ≡ every (λ x. member x (required (sheetOf header (now (arcs .entry)) (now (marks .entry))))) (now (goals .entry)) ⌝ }
 {
-    let mut nodes = [0usize; GOALS];
-    let count = sheet_required::required_nodes(header, arcs, marks, &mut nodes);
-    lists::all_listed(goals, &nodes[..count])
+    let mut items = [0usize; GOALS];
+    let count = sheet_required::required_items(header, arcs, marks, &mut items);
+    lists::all_listed(goals, &items[..count])
 }
 
 // Whether the goals are as the first number says: mandatory for 2, required for 3, open for 4.

@@ -3,7 +3,7 @@
 use Prim.Native.Nat.{ℕ, _+_, _≤_}
 use mathlib.Core.Path.{_≡_, refl, sym, ap, _∙_, subst}
 use mathlib.Core.Logic.{_⊎_, inl, inr, _↔_}
-use mathlib.Core.Bool.{Bool, true, false, not, _&&_, _||_, true≢false}
+use mathlib.Core.Bool.{Bool, true, false, not, _&&_, true≢false}
 use mathlib.Core.List.{List, [], _∷_, _++_}
 use native.Mathlib.Omega.{arith}
 use lib.ListN.{length}
@@ -11,7 +11,7 @@ use lib.Dec.{eqb, ltb}
 use borrow.Author.Tests.{eqb-true, eqb-false, eq-eqb, ne-eqb, lt-ltb, le-leb}
 use Rattle.lists.proofs.MemberLaws.{every-at, every-all, member-none, member-one}
 use Rattle.lists.proofs.Pigeonhole.{Below, below-append}
-use Rattle.lists.proofs.TestLaws.{and-true, true-and, not-true, true-or, true-or-false}
+use Rattle.lists.proofs.TestLaws.{and-true, true-and, not-true, true-or-false}
 use Rattle.lists.specs.Lists.{pick, member, every, ascends}
 use Rattle.pass_rules.proofs.AcceptedLaws.{accepted-got}
 use Rattle.pass_rules.proofs.Demand2.{refuses-is}
@@ -23,7 +23,6 @@ use Rattle.pass_rules.specs.Verdict.{verdict, Verdict, fitsSheet, isPruned, rea
 use Rattle.reason_rules.proofs.AnswerLaws.{explained}
 use Rattle.reason_rules.proofs.Demand3.{listed-forbidden, list-valid}
 use Rattle.reason_rules.specs.Later.{Explains}
-use Rattle.sheet.proofs.MarkLaws.{required-below}
 use Rattle.sheet.proofs.SlipLaws.{slip-read}
 use Rattle.sheet.specs.Sheet.{Sheet, isOpen, isMandatory, isForbidden, required}
 use Rattle.sheet.specs.Slip.{Slip, readSlip}
@@ -69,22 +68,19 @@ pub record WellFormed (S : Sheet) (s : Slip) : Type 0 where
   pub goals : ascends (s .goals) ≡ true
   pub reasons : ascends (s .reasons) ≡ true
   pub count : goalCount (s .first) (length (s .goals)) ≡ true
-  pub nodes : (not (eqb (s .first) 3) || every (λ i. ltb i (S .graph .nodes)) (s .goals)) ≡ true
+
+parts-formed : (S : Sheet) (s : Slip) → WellFormed S s → wellFormed S s ≡ true
+unfolding wellFormed
+parts-formed S s w = true-and (w .known) (true-and (w .goals) (true-and (w .reasons) (w .count)))
 
 formed-parts : (S : Sheet) (s : Slip) → wellFormed S s ≡ true → WellFormed S s
 unfolding wellFormed
 formed-parts S s w =
-    let n : Bool = not (eqb (s .first) 3) || every (λ i. ltb i (S .graph .nodes)) (s .goals) in
     let c : Bool = goalCount (s .first) (length (s .goals)) in
-    let a = and-true (every (λ i. ltb i (itemCount (S .graph))) (s .goals ++ s .reasons)) (ascends (s .goals) && (ascends (s .reasons) && (c && n))) w in
-    let b = and-true (ascends (s .goals)) (ascends (s .reasons) && (c && n)) (a .1) in
-    let d = and-true (ascends (s .reasons)) (c && n) (b .1) in
-    let e = and-true c n (d .1) in
-    record { known = a .0; goals = b .0; reasons = d .0; count = e .0; nodes = e .1 }
-
-parts-formed : (S : Sheet) (s : Slip) → WellFormed S s → wellFormed S s ≡ true
-unfolding wellFormed
-parts-formed S s w = true-and (w .known) (true-and (w .goals) (true-and (w .reasons) (true-and (w .count) (w .nodes))))
+    let a = and-true (every (λ i. ltb i (itemCount (S .graph))) (s .goals ++ s .reasons)) (ascends (s .goals) && (ascends (s .reasons) && c)) w in
+    let b = and-true (ascends (s .goals)) (ascends (s .reasons) && c) (a .1) in
+    let d = and-true (ascends (s .reasons)) c (b .1) in
+    record { known = a .0; goals = b .0; reasons = d .0; count = d .1 }
 
 -- of a well-formed 1 there are no goals
 no-goals : (S : Sheet) (s : Slip) → s .first ≡ 1 → WellFormed S s → s .goals ≡ []
@@ -150,26 +146,19 @@ own-rule : (S : Sheet) (v : ℕ) (goals : List ℕ) → fitsSheet S goals ≡ fa
 unfolding slipFor
 own-rule S v goals e d = record { closed = listed-forbidden S goals; goals = d; reason = list-valid S goals e }
 
-own-formed : (S : Sheet) (v : ℕ) (goals : List ℕ) → Goals S goals → goalCount v (length goals) ≡ true → (v ≡ 3 → Below (S .graph .nodes) goals)
-    → WellFormed S (slipFor S v goals)
+own-formed : (S : Sheet) (v : ℕ) (goals : List ℕ) → Goals S goals → goalCount v (length goals) ≡ true → WellFormed S (slipFor S v goals)
 unfolding slipFor
-own-formed S v goals G c n = record {
+own-formed S v goals G c = record {
   known = below-every (itemCount (S .graph)) (goals ++ reasonsFor S goals) (below-append (itemCount (S .graph)) goals (reasonsFor S goals) (G .items) (reasons-below S goals));
   goals = G .rising;
   reasons = reasons-rise S goals;
   count = c;
-  nodes = go (true-or-false (eqb v 3));
 }
-  where
-    go : (eqb v 3 ≡ true) ⊎ (eqb v 3 ≡ false) → (not (eqb v 3) || every (λ i. ltb i (S .graph .nodes)) goals) ≡ true
-    go (inl q) = true-or (not (eqb v 3)) (every (λ i. ltb i (S .graph .nodes)) goals) (below-every (S .graph .nodes) goals (n (eqb-true v 3 q)))
-    go (inr q) = rw q
 
 -- the goals of a verdict are counted and of the kind that its number says
 record Kinds (S : Sheet) (v : Verdict) : Type 0 where
   count : goalCount (v .number) (length (v .goals)) ≡ true
   kind : (g : ℕ) → member g (v .goals) ≡ true → GoalOf S (v .number) g
-  nodes : v .number ≡ 3 → Below (S .graph .nodes) (v .goals)
 
 verdict-kinds : (S : Sheet) → length (required S) ≤ 8 → (verdict S .number ≡ 0 → ⊥) → Kinds S (verdict S)
 unfolding goalCount
@@ -183,16 +172,14 @@ verdict-kinds S f n = go (verdict S) (verdict-is S) n
         more (r ∷ rs) e = omega arith
 
     go : (v : Verdict) → VerdictIs S v → (v .number ≡ 0 → ⊥) → Kinds S v
-    go v (one e) n = record { count = refl; kind = λ g m. absurd (member-none g m); nodes = λ q. absurd (omega (arith, q)) }
+    go v (one e) n = record { count = refl; kind = λ g m. absurd (member-none g m) }
     go v (two i s h m e l) n = record {
       count = refl;
       kind = λ g q. record { two = λ _. rw (member-one g i q) m; three = λ z. absurd (omega (arith, z)); four = λ z. absurd (omega (arith, z)) };
-      nodes = λ q. absurd (omega (arith, q));
     }
     go v (three s m e) n = record {
       count = true-and (le-leb 1 (length (required S)) (some s e)) (le-leb (length (required S)) 8 f);
       kind = λ g q. record { two = λ z. absurd (omega (arith, z)); three = λ _. q; four = λ z. absurd (omega (arith, z)) };
-      nodes = λ _. required-below S;
     }
     go v (stands s m e) n = absurd (n refl)
 
@@ -203,7 +190,7 @@ module _ (sheet : List ℕ) (S : Sheet) (a : accepted sheet ≡ got S []) where
       let y = refuses-is sheet S a s r in
       let f = accepted-got sheet S [] a .0 .few in
       let K = verdict-kinds S f (y .0) in
-      let w : WellFormed S s = subst (λ (s : Slip). WellFormed S s) (sym (y .1)) (own-formed S (verdict S .number) (verdict S .goals) (verdict-goals S f) (K .count) (K .nodes)) in
+      let w : WellFormed S s = subst (λ (s : Slip). WellFormed S s) (sym (y .1)) (own-formed S (verdict S .number) (verdict S .goals) (verdict-goals S f) (K .count)) in
       let h : Rule S s = subst (λ (s : Slip). Rule S s) (sym (y .1)) (own-rule S (verdict S .number) (verdict S .goals) (refused-goals S (y .0)) (K .kind)) in
       check-exact sheet S a (r .slip) s (r .says) (parts-formed S s w) .1 h
 
@@ -214,7 +201,7 @@ module _ (sheet : List ℕ) (S : Sheet) (a : accepted sheet ≡ got S []) where
       let y = explained sheet S i s a x in
       let p = and-true (isOpen S i) (not (fitsSheet S (i ∷ []))) (y .2) in
       let G : Goals S (i ∷ []) = record { few = omega arith; items = (y .0, tt); rising = refl } in
-      let w : WellFormed S s = subst (λ (s : Slip). WellFormed S s) (sym (y .3)) (own-formed S 4 (i ∷ []) G refl (λ q. absurd (omega (arith, q)))) in
+      let w : WellFormed S s = subst (λ (s : Slip). WellFormed S s) (sym (y .3)) (own-formed S 4 (i ∷ []) G refl) in
       let h : Rule S s = subst (λ (s : Slip). Rule S s) (sym (y .3))
       (own-rule S 4 (i ∷ []) (not-true (fitsSheet S (i ∷ [])) (p .1)) (λ g m. record { two = λ z. absurd (omega (arith, z)); three = λ z. absurd (omega (arith, z)); four = λ _. rw (member-one g i m) (p .0) })) in
       check-exact sheet S a (x .slip) s (x .says) (parts-formed S s w) .1 h

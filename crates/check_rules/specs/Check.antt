@@ -1,6 +1,6 @@
 -- The operation check: its answer on every input, and what it leaves.
 use Prim.Native.Nat.{ℕ}
-use mathlib.Core.Bool.{Bool, false, not, _&&_, _||_}
+use mathlib.Core.Bool.{Bool, false, not, _&&_}
 use mathlib.Core.List.{List, _++_}
 use lib.ListN.{length}
 use lib.Dec.{eqb, ltb, leb}
@@ -16,12 +16,11 @@ use Rattle.pass_rules.specs.Accepted.{accepted}
 unfoldable pub goalCount : ℕ → ℕ → Bool
 goalCount v count = pick (eqb v 1) (eqb count 0) (pick (eqb v 3) (leb 1 count && leb count 8) (eqb count 1))
 
--- what 18 asks: known items, goals and reasons strictly ascending, the goal count, no arc among the goals of a 3
+-- what 18 asks: known items, goals and reasons strictly ascending, the goal count
 unfoldable pub wellFormed : Sheet → Slip → Bool
 wellFormed S s =
     every (λ i. ltb i (itemCount (S .graph))) (s .goals ++ s .reasons)
-    && (ascends (s .goals) && (ascends (s .reasons) && (goalCount (s .first) (length (s .goals))
-    && (not (eqb (s .first) 3) || every (λ i. ltb i (S .graph .nodes)) (s .goals)))))
+    && (ascends (s .goals) && (ascends (s .reasons) && goalCount (s .first) (length (s .goals))))
 
 -- a goal is mandatory for 2, required for 3, open for 4
 unfoldable pub isGoal : Sheet → ℕ → ℕ → Bool

@@ -117,12 +117,15 @@ fn show_reason(name: &[u8], sheet: &[u8], item: u32) {
     show_answer(&work, &slip, answer.number, answer.length);
 }
 
-// Prints whether a check finished with yes.
-fn show_yes(number: u32, yes: bool) {
-    if number == 0 && yes {
-        io::write_all(STDOUT_FILENO, b"  check: yes");
+// Prints what a check says: yes, no or its refusal.
+fn show_said(number: u32, yes: bool) {
+    if number != 0 {
+        io::write_all(STDOUT_FILENO, b": refused ");
+        io::print_decimal(STDOUT_FILENO, number as u64);
+    } else if yes {
+        io::write_all(STDOUT_FILENO, b": yes");
     } else {
-        io::write_all(STDOUT_FILENO, b"  check: not yes");
+        io::write_all(STDOUT_FILENO, b": no");
     }
 }
 
@@ -136,11 +139,13 @@ fn show_work_left(work: &[u32]) {
     io::write_all(STDOUT_FILENO, b"\n");
 }
 
-// Prints whether check says yes to the slip of the line before.
+// Prints a line: the slip, and what check says to it on the sheet of the line before.
 fn show_check(sheet: &[u8], slip: &[u8]) {
+    io::write_all(STDOUT_FILENO, b"  check of");
+    print_bytes(slip, slip.len());
     let mut work = [FILLED_NUMBER; WORK_LENT];
     let answer = checker::check(sheet, &mut work, slip);
-    show_yes(answer.number, answer.yes);
+    show_said(answer.number, answer.yes);
     show_work_left(&work);
 }
 
@@ -268,7 +273,7 @@ fn bad_sheets() {
     );
 }
 
-// Sheets with a number that is too large, or too many counted stops.
+// Sheets with a number that is too large, or too many counted items.
 fn large_sheets() {
     show_pass(
         b"Limit C1 84 3D",
@@ -279,12 +284,12 @@ fn large_sheets() {
         b"\x04\x05\x00\x03\x08\x00\x01\x80\x80\x04\x01\x03\x04\x00\x02\x03\x02\x03\x09\x01\x02\x01\x00\x00\x00\x00\x00\x00\x00\x00\x00",
     );
     show_pass(
-        b"Nine counted stops",
+        b"Nine counted places",
         b"\x0B\x00\x00\x0A\x08\x00\x01\x01\x01\x01\x01\x01\x01\x01\x01\x00",
     );
 }
 
-// Limits, minutes and counted stops at their bounds.
+// Limits, minutes and counted items at their bounds.
 fn bounds() {
     show_pass(
         b"Limit C0 84 3D",
@@ -296,9 +301,43 @@ fn bounds() {
         b"\x01\x00\x00",
     );
     show_checked(
-        b"Eight counted stops",
+        b"Eight counted places",
         b"\x0B\x00\x00\x0A\x08\x00\x01\x01\x01\x01\x01\x01\x01\x01\x00\x00",
         b"\x01\x00\x00",
+    );
+}
+
+// Must legs on B: the line that request 2.3 adds to the starred ones; the same with an end of the leg must, which is not counted; two that one walk drives.
+fn must_legs() {
+    let two =
+        b"\x04\x05\x00\x03\x0E\x00\x01\x04\x01\x03\x04\x00\x02\x03\x02\x03\x09\x01\x02\x01\x00\x01\x00\x00\x00\x00\x01\x00\x00";
+    show_checked(b"K 14, items 1 and 6 must", two, b"\x03\x02\x01\x06\x00");
+    show_check(two, b"\x03\x02\x01\x02\x00");
+    show_check(two, b"\x03\x02\x01\x04\x00");
+    let end =
+        b"\x04\x05\x00\x03\x0E\x00\x01\x04\x01\x03\x04\x00\x02\x03\x02\x03\x09\x01\x02\x01\x00\x01\x01\x00\x00\x00\x01\x00\x00";
+    show_checked(b"K 14, items 1, 2 and 6 must", end, b"\x03\x02\x01\x06\x00");
+    show_check(end, b"\x03\x02\x01\x02\x00");
+    show_pass(
+        b"K 14, items 4 and 8 must",
+        b"\x04\x05\x00\x03\x0E\x00\x01\x04\x01\x03\x04\x00\x02\x03\x02\x03\x09\x01\x02\x01\x00\x00\x00\x00\x01\x00\x00\x00\x01",
+    );
+}
+
+// Must legs from start to finish: twins without and with a way back, and nine of them.
+fn twin_legs() {
+    show_checked(
+        b"Twin must legs, no way back",
+        b"\x02\x02\x00\x01\x09\x00\x01\x01\x00\x01\x01\x00\x00\x01\x01",
+        b"\x03\x02\x02\x03\x00",
+    );
+    show_pass(
+        b"Twin must legs, a way back",
+        b"\x02\x03\x00\x01\x09\x00\x01\x01\x00\x01\x01\x01\x00\x01\x00\x00\x01\x01\x00",
+    );
+    show_pass(
+        b"Nine must legs",
+        b"\x02\x09\x00\x01\x63\x00\x01\x01\x00\x01\x01\x00\x01\x01\x00\x01\x01\x00\x01\x01\x00\x01\x01\x00\x01\x01\x00\x01\x01\x00\x01\x01\x00\x00\x01\x01\x01\x01\x01\x01\x01\x01\x01",
     );
 }
 
@@ -589,6 +628,8 @@ fn main() {
     starred_refusals();
     starred_closures();
     starred_reasons();
+    must_legs();
+    twin_legs();
     bad_sheets();
     large_sheets();
     bounds();

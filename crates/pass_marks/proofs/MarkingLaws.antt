@@ -1,56 +1,23 @@
--- The new marks: which nodes are forced, an item's mark by cases, and the marks written one by one. Assumes nothing.
+-- The new marks: an item's mark by cases, and the marks written one by one. Assumes nothing.
 use Prim.Native.Nat.{ℕ, suc, _+_, _≤_, _<_}
-use mathlib.Core.Path.{_≡_, refl, sym, ap, _∙_}
-use mathlib.Core.Logic.{_⊎_, inl, inr}
-use mathlib.Core.Bool.{Bool, true, false, _||_}
+use mathlib.Core.Path.{_≡_, sym, ap, _∙_}
+use mathlib.Core.Bool.{Bool, true, false}
 use mathlib.Core.List.{List, [], _∷_, _++_}
 use native.Mathlib.Omega.{arith}
 use native.Mathlib.Numerals.{add-one}
-use lib.ListN.{length, getD, take, set, length-set}
-use lib.Seq.{getD-set-same, getD-set-other, take-suc, length-take-le, take-all}
-use lib.Dec.{eqb}
-use borrow.Author.Tests.{eqb-true, eqb-false, ne-eqb, lt-ltb, le-ltb}
+use lib.ListN.{length, take, set}
+use lib.Seq.{take-suc, length-take-le, take-all}
+use borrow.Author.Tests.{ne-eqb}
 use Rattle.sheet.specs.declared.Header.{Header}
 use Rattle.lists.proofs.FrontLaws.{push-at, length-front}
-use Rattle.lists.proofs.TestLaws.{true-or-false, true-or}
 use Rattle.lists.specs.Lists.{front, pick}
-use Rattle.sheet_required.specs.Whole.{Ends, Whole}
+use Rattle.sheet_required.specs.Whole.{Whole}
 use Rattle.sheet.proofs.MarkLaws.{is-open}
-use Rattle.sheet.specs.Sheet.{Sheet, markOf, isOpen, allArcs, endsMandatory, sheetOf}
+use Rattle.sheet.specs.Sheet.{Sheet, markOf, isOpen, isForced, sheetOf}
 use Rattle.pass_rules.proofs.SlipOfPass.{new-marks-size, new-marks-at}
 use Rattle.pass_rules.proofs.VerdictLaws.{other-mark}
-use Rattle.pass_rules.specs.Verdict.{fitsSheet, isPruned, isForced, newMark, newMarks}
+use Rattle.pass_rules.specs.Verdict.{fitsSheet, isPruned, newMark, newMarks}
 use Rattle.sheet_required.proofs.WholeLaws.{items-are}
-use Rattle.pass_marks.specs.ForcedNodes.{ForcedNodes}
-
-module _ (S : Sheet) (ends : List ℕ) (E : Ends S ends) (few : S .graph .nodes ≤ 64) (s : S .source < S .graph .nodes) (t : S .target < S .graph .nodes) where
-  one : List ℕ
-  one = set ends (S .source) 1
-
-  -- source and target are put in
-  pub forced-are : ForcedNodes S (set (set ends (S .source) 1) (S .target) 1)
-  unfolding isForced
-  forced-are = record { size = simp length-set (E .size); each = λ p h. rw (lt-ltb p (S .graph .nodes) h) (go p h (true-or-false (eqb p (S .target))) (true-or-false (eqb p (S .source)))) }
-    where
-      either : (a b c : Bool) → (a ≡ true) ⊎ (b ≡ true) → true ≡ (a || (b || c))
-      either a b c (inl q) = rw q
-      either a b c (inr q) = rw q (sym (true-or a true refl))
-
-      go : (p : ℕ) → p < S .graph .nodes → (eqb p (S .target) ≡ true) ⊎ (eqb p (S .target) ≡ false) → (eqb p (S .source) ≡ true) ⊎ (eqb p (S .source) ≡ false)
-          → eqb (getD (set (set ends (S .source) 1) (S .target) 1) p 0) 1 ≡ (eqb p (S .source) || (eqb p (S .target) || endsMandatory S p (allArcs (S .graph))))
-      go p h (inl q) r =
-          let z : p ≡ S .target = eqb-true p (S .target) q in
-          let y : getD (set (set ends (S .source) 1) (S .target) 1) p 0 ≡ 1 = rw z (getD-set-same (set ends (S .source) 1) (S .target) 1 0 (rw length-set (omega (arith, E .size)))) in
-          rw y (either (eqb p (S .source)) (eqb p (S .target)) (endsMandatory S p (allArcs (S .graph))) (inr q))
-      go p h (inr q) (inl r) =
-          let z : p ≡ S .source = eqb-true p (S .source) r in
-          let y : getD (set (set ends (S .source) 1) (S .target) 1) p 0 ≡ 1 =
-          getD-set-other (set ends (S .source) 1) (S .target) p 1 0 (eqb-false p (S .target) q) ∙ rw z (getD-set-same ends (S .source) 1 0 (omega (arith, E .size))) in
-          rw y (either (eqb p (S .source)) (eqb p (S .target)) (endsMandatory S p (allArcs (S .graph))) (inl r))
-      go p h (inr q) (inr r) =
-          let y : getD (set (set ends (S .source) 1) (S .target) 1) p 0 ≡ getD ends p 0 =
-          getD-set-other (set ends (S .source) 1) (S .target) p 1 0 (eqb-false p (S .target) q) ∙ getD-set-other ends (S .source) p 1 0 (eqb-false p (S .source) r) in
-          rw (y, r, q) (E .each p (omega arith))
 
 -- an item's new mark by cases
 pub mark-kept : (S : Sheet) (i m : ℕ) → markOf S i ≡ m → (m ≡ 0 → ⊥) → m ≡ newMark S i
@@ -64,11 +31,6 @@ mark-pruned S i e f = rw (is-open S i e, f)
 pub mark-open : (S : Sheet) (i : ℕ) (r : ℕ) (t : Bool) → markOf S i ≡ 0 → fitsSheet S (i ∷ []) ≡ true → isForced S i ≡ t → r ≡ pick t 1 0 → r ≡ newMark S i
 unfolding newMark isPruned
 mark-open S i r t e f g q = rw (is-open S i e, f, g, e) q
-
--- no arc is forced
-pub arc-free : (S : Sheet) (i : ℕ) → S .graph .nodes ≤ i → isForced S i ≡ false
-unfolding isForced
-arc-free S i h = rw (le-ltb i (S .graph .nodes) h)
 
 -- the marks written below i
 abbrev pub Marking : Sheet → ℕ → List ℕ → List ℕ → ℕ → Type 0

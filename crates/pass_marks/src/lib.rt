@@ -6,27 +6,12 @@ ghost use lib.ListN.{length};
 ghost use Rattle.lists.specs.Lists.{front, Put};
 ghost use Rattle.pass_rules.specs.Verdict.{newMark, newMarks};
 ghost use Rattle.sheet.specs.Sheet.{sheetOf};
-ghost use Rattle.sheet_required.specs.Whole.{Whole};
+ghost use Rattle.sheet_required.specs.Whole.{ForcedNodes};
 ghost use Rattle.item_fits.specs.Rows.{Rows};
-ghost use Rattle.pass_marks.specs.ForcedNodes.{ForcedNodes};
 use sheet::Header;
 use walks::FORBIDDEN;
 use walks::MANDATORY;
-use walks::NODES;
 use walks::OPEN;
-
-// The nodes that become mandatory where they are open, marked 1: source, target and the ends of mandatory arcs.
-fn forced_nodes(header: Header, arcs: &[u32], marks: &[u8]) -> [u8; NODES]
-    requires { ⌜ Whole header (now arcs) (now marks) ⌝ }
-    ensures { λ r. ⌜ ForcedNodes (sheetOf header (now (arcs .entry)) (now (marks .entry))) r ⌝ }
-{
-    let mut forced = sheet_required::ends_of(header, arcs, marks);
-    let source = header.source;
-    let target = header.target;
-    forced[source] = 1;
-    forced[target] = 1;
-    forced
-}
 
 // An item's mark after a pass of verdict 0: an open item that no walk meets becomes forbidden, an open node that is forced mandatory.
 fn new_mark(
@@ -61,7 +46,7 @@ fn put_marks(header: Header, arcs: &[u32], marks: &[u8], rows: &[u32], out: &mut
     requires { ⌜ Rows header (now arcs) (now marks) (now rows) × (header .nodes + header .arcs ≤ length (now out)) ⌝ }
     ensures { λ _. ⌜ now (out .exit) ≡ front (newMarks (sheetOf header (now (arcs .entry)) (now (marks .entry)))) (now (out .entry)) ⌝ }
 {
-    let forced = forced_nodes(header, arcs, marks);
+    let forced = sheet_required::forced_nodes(header, arcs, marks);
     let items = header.nodes + header.arcs;
     let mut i: usize = 0;
     while i < items {

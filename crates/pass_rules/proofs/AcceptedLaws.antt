@@ -15,7 +15,7 @@ use Rattle.walks.specs.Graph.{least}
 use Rattle.walks.specs.Lengths.{Least, some, none}
 use Rattle.pass_rules.specs.Accepted.{overlong, shortEnough, accepted}
 
--- the shortest walk that meets all required nodes fits 32 bits
+-- the shortest walk that meets all required items fits 32 bits
 pub never-overlong : (bs : List ℕ) (S : Sheet) → Taken bs S → overlong (least (S .graph) (isForbidden S) (required S) (S .source) (S .target)) ≡ false
 unfolding overlong
 never-overlong bs S T = go (least (S .graph) (isForbidden S) (required S) (S .source) (S .target)) refl

@@ -3,104 +3,56 @@
 use Prim.Native.Nat.{ℕ, _≤_, _<_}
 use mathlib.Core.Path.{_≡_, refl, sym, ap, _∙_, subst}
 use mathlib.Core.Logic.{_⊎_, inl, inr, _↔_}
-use mathlib.Core.Bool.{Bool, true, false, _||_, true≢false}
+use mathlib.Core.Bool.{true, false, true≢false}
 use mathlib.Core.List.{List, [], _∷_}
 use native.Mathlib.Omega.{arith}
 use lib.ListN.{length}
-use lib.Dec.{eqb}
-use borrow.Author.Tests.{eqb-true, eqb-false}
-use Rattle.lists.proofs.AscendLaws.{span-member, member-span}
-use Rattle.lists.proofs.MemberLaws.{member-keep, keep-member, member-none}
-use Rattle.lists.proofs.TestLaws.{or-true, or-of, true-of, true-or-false}
-use Rattle.lists.specs.Lists.{member}
-use Rattle.sheet.proofs.MarkLaws.{required-is, is-required}
+use Rattle.lists.proofs.MemberLaws.{member-none}
+use Rattle.lists.proofs.TestLaws.{true-of}
+use Rattle.sheet.proofs.MarkLaws.{forced-is, is-forced}
 use Rattle.sheet.proofs.SlipLaws.{slip-back}
 use Rattle.sheet.specs.Good.{Good}
-use Rattle.sheet.specs.Sheet.{Sheet, markOf, isOpen, isMandatory, isForbidden, allNodes, allArcs, endsMandatory, required}
+use Rattle.sheet.specs.Sheet.{Sheet, markOf, isOpen, isMandatory, isForbidden, Forced, required}
 use Rattle.sheet.specs.Slip.{readSlip, Slip, as17}
 use Rattle.varint.proofs.VarintLaws.{got-both}
 use Rattle.varint.specs.Varint.{got, number, judged, readNumber, readGroups, lastGroup, after}
 use Rattle.walks.proofs.FitsLaws.{fit-narrower}
-use Rattle.walks.proofs.Join.{meets-all, meets-at, first-item, last-item}
-use Rattle.walks.proofs.LeastLaw.{fit-walk, walk-fit}
-use Rattle.walks.specs.Graph.{itemCount, items, fit, meets}
-use Rattle.walks.specs.Walk.{Walk}
+use Rattle.walks.specs.Graph.{itemCount}
 use Rattle.pass_rules.proofs.AcceptedLaws.{accepted-got, accepted-good}
-use Rattle.pass_rules.proofs.ForcedLaws.{forced-is, is-forced, forced-met}
+use Rattle.pass_rules.proofs.MetLaws.{forced-node, forced-fits, all-missing}
 use Rattle.pass_rules.proofs.RouteLaws.{route-stands, route-left, left-route}
 use Rattle.pass_rules.proofs.SlipOfPass.{PassSlipIs, marks, blames, pass-slip-is, pass-finishes, pass-verdict-in, pass-mark-in}
 use Rattle.pass_rules.proofs.VerdictLaws.{NoWalkOn, no-walk, stands-all, all-stands, pruned-mark, other-mark, mark-forced, forced-mark, verdict-low, VerdictIs, verdict-is, one, two, three, stands}
 use Rattle.pass_rules.specs.Accepted.{accepted}
 use Rattle.sheet.specs.Answer.{finished}
 use Rattle.pass_rules.specs.Pass.{passOn, verdictIn, markIn, marksIn, Refuses}
-use Rattle.pass_rules.specs.Route.{Route, demandedNodes, marked, Forced}
+use Rattle.pass_rules.specs.Route.{Route, mandatory, marked}
 use Rattle.pass_rules.specs.Verdict.{fitsSheet, verdict, newMark, slipFor, passSlip, Verdict, newMarks}
 
--- the round is refused when a walk is missing for one mandatory mark, or for all mandatory nodes and ends of mandatory arcs together
+-- the round is refused when a walk is missing for one mandatory item, or for all mandatory items together
 abbrev pub Refusal : Sheet → Type 0
 Refusal S =
     ((i : ℕ) × (i < itemCount (S .graph)) × (isMandatory S i ≡ true) × NoWalkOn S (i ∷ []))
-    ⊎ NoWalkOn S (demandedNodes S)
+    ⊎ NoWalkOn S (mandatory S)
 
--- a node is demanded where it is mandatory or an end of a mandatory arc
-pub is-demanded : (S : Sheet) (p : ℕ) → p < S .graph .nodes → (isMandatory S p ≡ true) ⊎ (endsMandatory S p (allArcs (S .graph)) ≡ true)
-    → member p (demandedNodes S) ≡ true
-unfolding demandedNodes allNodes
-is-demanded S p h d =
-    member-keep (λ q. isMandatory S q || endsMandatory S q (allArcs (S .graph))) p (allNodes (S .graph))
-    (member-span (S .graph .nodes) 0 p (omega arith) (omega arith)) (or-of (isMandatory S p) (endsMandatory S p (allArcs (S .graph))) d)
-
-pub required-demanded : (S : Sheet) (p : ℕ) → member p (required S) ≡ true → member p (demandedNodes S) ≡ true
-required-demanded S p m = let r = required-is S p m in is-demanded S p (r .node) (r .demanded)
-
--- every walk from source to target touches both, so that meeting the required nodes is meeting all demanded ones
-demanded-required : (S : Sheet) → NoWalkOn S (demandedNodes S) ↔ NoWalkOn S (required S)
-unfolding demandedNodes allNodes
-demanded-required S = (λ n w e. n w (more w e), λ n w e. n w (fewer w e))
-  where
-    demanded : ℕ → Bool
-    demanded p = isMandatory S p || endsMandatory S p (allArcs (S .graph))
-
-    more : (w : List ℕ) → fit (S .graph) (isForbidden S) (required S) (S .source) (S .target) w ≡ true
-        → fit (S .graph) (isForbidden S) (demandedNodes S) (S .source) (S .target) w ≡ true
-    more w e =
-        let f = fit-walk (S .graph) (isForbidden S) (required S) (S .target) (S .source) w e in
-        walk-fit (S .graph) (isForbidden S) (demandedNodes S) (S .target) (S .source) w (f .0)
-        (meets-all (S .graph) (demandedNodes S) (S .source) w (λ p m. go w f p (keep-member demanded p (allNodes (S .graph)) m) (true-or-false (eqb p (S .source))) (true-or-false (eqb p (S .target)))))
-      where
-        go : (w : List ℕ) → Walk (S .graph) (isForbidden S) (S .source) (S .target) w × (meets (S .graph) (required S) (S .source) w ≡ true) → (p : ℕ)
-            → (member p (allNodes (S .graph)) ≡ true) × (demanded p ≡ true) → (eqb p (S .source) ≡ true) ⊎ (eqb p (S .source) ≡ false) → (eqb p (S .target) ≡ true) ⊎ (eqb p (S .target) ≡ false)
-            → member p (items (S .graph) (S .source) w) ≡ true
-        go w f p k (inl q) r = rw (eqb-true p (S .source) q) (first-item (S .graph) (S .source) w)
-        go w f p k (inr q) (inl r) = rw (eqb-true p (S .target) r) (last-item (S .graph) (isForbidden S) (S .source) (S .target) w (f .0))
-        go w f p k (inr q) (inr r) =
-            meets-at (S .graph) (required S) (S .source) w p (f .1)
-            (is-required S p
-            (record { node = omega (arith, span-member (S .graph .nodes) 0 p (k .0) .1); between = (eqb-false p (S .source) q, eqb-false p (S .target) r); demanded = or-true (isMandatory S p) (endsMandatory S p (allArcs (S .graph))) (k .1) }))
-
-    fewer : (w : List ℕ) → fit (S .graph) (isForbidden S) (demandedNodes S) (S .source) (S .target) w ≡ true
-        → fit (S .graph) (isForbidden S) (required S) (S .source) (S .target) w ≡ true
-    fewer w e =
-        fit-narrower (S .graph) (isForbidden S) (isForbidden S) (demandedNodes S) (required S) (S .source) (S .target) w (λ i h o. o) (required-demanded S) e
-
--- where some walk meets all required nodes, some walk meets all demanded ones
-pub demanded-met : (S : Sheet) → fitsSheet S (required S) ≡ true → fitsSheet S (demandedNodes S) ≡ true
-demanded-met S e =
-    true-of (fitsSheet S (demandedNodes S)) (λ q. true≢false (sym e ∙ no-walk S (required S) .1 (demanded-required S .0 (no-walk S (demandedNodes S) .0 q))))
+-- where some walk meets all required items, some walk meets all mandatory ones
+pub mandatory-met : (S : Sheet) → fitsSheet S (required S) ≡ true → fitsSheet S (mandatory S) ≡ true
+mandatory-met S e =
+    true-of (fitsSheet S (mandatory S)) (λ q. true≢false (sym e ∙ no-walk S (required S) .1 (all-missing S .0 (no-walk S (mandatory S) .0 q))))
 
 -- where the verdict is not 0, a walk is missing, and the other way
 refusal-is : (S : Sheet) → (verdict S .number ≡ 0 → ⊥) → Refusal S
 refusal-is S n = go (verdict S) (verdict-is S) n
   where
     go : (v : Verdict) → VerdictIs S v → (v .number ≡ 0 → ⊥) → Refusal S
-    go v (one e) n = inr (λ w f. no-walk S [] .0 e w (fit-narrower (S .graph) (isForbidden S) (isForbidden S) (demandedNodes S) [] (S .source) (S .target) w (λ i h o. o) (λ g m. absurd (member-none g m)) f))
+    go v (one e) n = inr (λ w f. no-walk S [] .0 e w (fit-narrower (S .graph) (isForbidden S) (isForbidden S) (mandatory S) [] (S .source) (S .target) w (λ i h o. o) (λ g m. absurd (member-none g m)) f))
     go v (two i s h m e l) n = inl (i, h, m, no-walk S (i ∷ []) .0 e)
-    go v (three s m e) n = inr (demanded-required S .1 (no-walk S (required S) .0 e))
+    go v (three s m e) n = inr (all-missing S .1 (no-walk S (required S) .0 e))
     go v (stands s m e) n = absurd (n refl)
 
 is-refusal : (S : Sheet) → Refusal S → verdict S .number ≡ 0 → ⊥
 is-refusal S (inl r) e = true≢false (sym (stands-all S e .each (r .0) (r .1) (r .2)) ∙ no-walk S (r .0 ∷ []) .1 (r .3))
-is-refusal S (inr n) e = true≢false (sym (stands-all S e .together) ∙ no-walk S (required S) .1 (demanded-required S .0 n))
+is-refusal S (inr n) e = true≢false (sym (stands-all S e .together) ∙ no-walk S (required S) .1 (all-missing S .0 n))
 
 -- no slip of verdict 0 reads as one with goals and reasons
 no-marks : (ms : List ℕ) (s : Slip) → readSlip (0 ∷ ms) ≡ got s [] → ⊥
@@ -160,7 +112,7 @@ module _ (sheet : List ℕ) (S : Sheet) (a : accepted sheet ≡ got S []) where
       go bs (marks e) q = absurd (n e)
       go bs (blames l b) q = record { slip = bs; finishes = q; says = slip-back (slipFor S (verdict S .number) (verdict S .goals)) b; low = l; high = verdict-low S }
 
-  -- A round is refused exactly when such a walk is missing for one mandatory mark, or for all mandatory nodes and ends of mandatory arcs together.
+  -- A round is refused exactly when such a walk is missing for one mandatory item, or for all mandatory items together.
   pub refuse-exact : ((s : Slip) × Refuses sheet s) ↔ Refusal S
   refuse-exact = (
     λ r. refusal-is S (refuses-is (r .0) (r .1) .0),
@@ -173,7 +125,7 @@ module _ (sheet : List ℕ) (S : Sheet) (a : accepted sheet ≡ got S []) where
   forced-exact slip e z i h o =
       let m = marks-exact slip e z i h in
       let t = stands-all S (sym (verdict-in slip e) ∙ z) in
-      (λ q. forced-is S i (forced-mark S i o (sym m ∙ q)), λ f. m ∙ mark-forced S i o (forced-met S t i f) (is-forced S good i f))
+      (λ q. forced-is S i (forced-mark S i o (sym m ∙ q)) .1, λ f. m ∙ mark-forced S i o (forced-fits S t i f) (is-forced S i (forced-node S good i f) f))
 
   -- and every item that is not open keeps its mark
   pub marked-kept : (slip : List ℕ) → passOn sheet ≡ finished slip → verdictIn slip ≡ 0 → (i : ℕ) → i < itemCount (S .graph) → isOpen S i ≡ false

@@ -2,6 +2,6 @@ pub mod AcceptedLaws
 pub mod VerdictLaws
 pub mod SlipOfPass
 pub mod RouteLaws
-pub mod ForcedLaws
+pub mod MetLaws
 pub mod Demand2
 pub mod WithinLaws

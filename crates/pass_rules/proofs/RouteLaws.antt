@@ -1,29 +1,25 @@
 -- No route is lost and none is won: what a route meets is met by a walk within the limit, so its sheet stands and the pass leaves it alone; and with the
 -- marks that the pass leaves, more is asked. Assumes nothing.
-use Prim.Native.Nat.{ℕ, suc, _+_, _≤_, _<_}
+use Prim.Native.Nat.{ℕ, _<_}
 use mathlib.Core.Path.{_≡_, sym, ap, _∙_}
 use mathlib.Core.Logic.{_⊎_, inl, inr, ⊎-elim}
 use mathlib.Core.Bool.{Bool, true, false, not, _&&_, true≢false}
 use mathlib.Core.List.{List, []}
 use native.Mathlib.Omega.{arith}
-use lib.ListN.{length, List·getD-eq-default}
-use lib.Dec.{ltb}
-use borrow.Author.Tests.{ltb-true, ltb-false}
-use Rattle.lists.proofs.AscendLaws.{span-member}
-use Rattle.lists.proofs.MemberLaws.{member-none, member-keep, keep-member, every-all}
-use Rattle.lists.proofs.TestLaws.{true-or-false, and-true, true-and, true-of, false-of}
+use Rattle.lists.proofs.MemberLaws.{member-none, every-all}
+use Rattle.lists.proofs.TestLaws.{true-or-false, and-true, true-and, false-of}
 use Rattle.lists.specs.Lists.{member}
-use Rattle.sheet.proofs.MarkLaws.{required-is, is-item, item-is, ends-mandatory, forbidden-mark, is-mandatory, mandatory-mark}
-use Rattle.sheet.specs.Sheet.{Sheet, markOf, isOpen, isMandatory, isForbidden, allItems, allArcs, endsMandatory, required}
+use Rattle.sheet.proofs.MarkLaws.{forced-is, required-is, marked-item, forbidden-mark, is-mandatory, mandatory-mark}
+use Rattle.sheet.specs.Sheet.{Sheet, markOf, isOpen, isMandatory, isForbidden, required}
 use Rattle.walks.proofs.FitsLaws.{fit-narrower}
-use Rattle.walks.proofs.Join.{meets-all, meets-at, end-met, fit-clear, first-item, last-item}
+use Rattle.walks.proofs.Join.{meets-all, meets-at, fit-clear}
 use Rattle.walks.proofs.LeastLaw.{fit-walk}
 use Rattle.walks.specs.Graph.{Graph, itemCount, arcItem, items, chain, clear, meets, fit}
 use Rattle.walks.specs.Walk.{Walk}
-use Rattle.pass_rules.proofs.ForcedLaws.{forced-is}
+use Rattle.pass_rules.proofs.MetLaws.{is-mandatory-item, mandatory-item-is, forced-met}
 use Rattle.pass_rules.proofs.SlipOfPass.{new-marks-size, new-marks-at}
 use Rattle.pass_rules.proofs.VerdictLaws.{SomeWalkOn, met-fits, one-fits, Stands, pruned-mark, forced-mark, other-mark, forbidden-stays, mandatory-stays}
-use Rattle.pass_rules.specs.Route.{Route, mandatory, marked, Forced, is-source, is-target, ends-arc}
+use Rattle.pass_rules.specs.Route.{Route, mandatory, marked}
 use Rattle.pass_rules.specs.Verdict.{newMark, newMarks}
 
 module _ (S : Sheet) (w : List ℕ) (R : Route S w) where
@@ -37,18 +33,7 @@ module _ (S : Sheet) (w : List ℕ) (R : Route S w) where
   unfolding mandatory met
   mandatory-met i h m =
       meets-at (S .graph) (mandatory S) (S .source) w i (fit-walk (S .graph) (isForbidden S) (mandatory S) (S .target) (S .source) w (R .obeys) .1)
-      (member-keep (isMandatory S) i (allItems (S .graph)) (is-item (S .graph) i h) m)
-
-  -- the ends of a mandatory arc are met
-  arc-end-met : (p : ℕ) → endsMandatory S p (allArcs (S .graph)) ≡ true → member p met ≡ true
-  unfolding allArcs arcItem met
-  arc-end-met p q =
-      let f = ends-mandatory S p (allArcs (S .graph)) q in
-      let h : f .0 < length (S .graph .arcs) = omega (arith, span-member (length (S .graph .arcs)) 0 (f .0) (f .1) .1) in
-      end-met (S .graph) (isForbidden S) (S .target) (f .0) p (S .source) w walk (mandatory-met (S .graph .nodes + f .0) (omega arith) (f .2)) (f .3)
-
-  required-met : (p : ℕ) → member p (required S) ≡ true → member p met ≡ true
-  required-met p m = let r = required-is S p m in ⊎-elim (mandatory-met p (omega (arith, r .node))) (arc-end-met p) (r .demanded)
+      (is-mandatory-item S i h m)
 
   some : SomeWalkOn S (mandatory S)
   some = record { way = w; fitting = R .obeys; short = R .short }
@@ -59,7 +44,7 @@ module _ (S : Sheet) (w : List ℕ) (R : Route S w) where
   route-stands = record {
     some = met-fits S (mandatory S) some [] (λ g q. absurd (member-none g q));
     each = λ i h m. one-fits S (mandatory S) some i (mandatory-met i h m);
-    together = met-fits S (mandatory S) some (required S) required-met;
+    together = met-fits S (mandatory S) some (required S) (λ i m. let r = required-is S i m in mandatory-met i (r .item) (r .mandatory));
   }
 
   -- no item that the route meets ends forbidden
@@ -77,14 +62,9 @@ module _ (S : Sheet) (w : List ℕ) (R : Route S w) where
   pub route-meets : (i : ℕ) → i < itemCount (S .graph) → newMark S i ≡ 1 → member i (items (S .graph) (S .source) w) ≡ true
   unfolding met arcItem
   route-meets i h e =
-      ⊎-elim (λ o. forced (forced-is S i (forced-mark S i o e))) (λ o. mandatory-met i h (is-mandatory S i (sym (other-mark S i o) ∙ e)))
+      ⊎-elim (λ o. forced-met S w walk (λ l k q. mandatory-met (arcItem (S .graph) l) (omega arith) q) i (forced-is S i (forced-mark S i o e) .1))
+      (λ o. mandatory-met i h (is-mandatory S i (sym (other-mark S i o) ∙ e)))
       (true-or-false (isOpen S i))
-    where
-      forced : Forced S i → member i met ≡ true
-      forced (is-source q) = rw q (first-item (S .graph) (S .source) w)
-      forced (is-target q) = rw q (last-item (S .graph) (isForbidden S) (S .source) (S .target) w walk)
-      forced (ends-arc l h m q) =
-          end-met (S .graph) (isForbidden S) (S .target) l i (S .source) w walk (mandatory-met (S .graph .nodes + l) (omega arith) m) q
 
 -- a walk that fits still does where it meets nothing closed and all that is asked
 fit-again : (G : Graph) (c c′ : ℕ → Bool) (gs gs′ : List ℕ) (a b : ℕ) (w : List ℕ) → fit G c gs a b w ≡ true
@@ -103,16 +83,6 @@ module _ (S : Sheet) where
   unfolding left markOf
   left-mark i h = new-marks-at S i h
 
-  -- past the items there is no mark
-  left-item : (i m : ℕ) → markOf left i ≡ suc m → i < itemCount (S .graph)
-  unfolding left markOf
-  left-item i m e = ltb-true i (itemCount (S .graph)) (true-of (ltb i (itemCount (S .graph))) past)
-    where
-      past : ltb i (itemCount (S .graph)) ≡ false → ⊥
-      past q =
-          let h : length (newMarks S) ≤ i = omega (arith, ltb-false i (itemCount (S .graph)) q, new-marks-size S) in
-          omega (arith, List·getD-eq-default (newMarks S) 0 h, e)
-
   pub route-left : (w : List ℕ) → Route S w → Route (marked S (newMarks S)) w
   unfolding left mandatory
   route-left w R = record {
@@ -122,13 +92,12 @@ module _ (S : Sheet) where
   }
     where
       clear-of : (i : ℕ) → member i (items (S .graph) (S .source) w) ≡ true → markOf left i ≡ 2 → ⊥
-      clear-of i m e = true≢false (sym m ∙ route-clear S w R i (sym (left-mark i (left-item i 1 e)) ∙ e))
+      clear-of i m e = true≢false (sym m ∙ route-clear S w R i (sym (left-mark i (marked-item left i 1 (new-marks-size S) e)) ∙ e))
 
       meets : (g : ℕ) → member g (mandatory left) ≡ true → member g (items (S .graph) (S .source) w) ≡ true
       meets g m =
-          let k = keep-member (isMandatory left) g (allItems (S .graph)) m in
-          let h = item-is (S .graph) g (k .0) in
-          route-meets S w R g h (sym (left-mark g h) ∙ mandatory-mark left g .0 (k .1))
+          let k = mandatory-item-is left g m in
+          route-meets S w R g (k .0) (sym (left-mark g (k .0)) ∙ mandatory-mark left g .0 (k .1))
 
   pub left-route : (w : List ℕ) → Route (marked S (newMarks S)) w → Route S w
   unfolding left mandatory
@@ -143,6 +112,5 @@ module _ (S : Sheet) where
 
       asked : (i : ℕ) → member i (mandatory S) ≡ true → member i (mandatory left) ≡ true
       asked i m =
-          let k = keep-member (isMandatory S) i (allItems (S .graph)) m in
-          let h = item-is (S .graph) i (k .0) in
-          member-keep (isMandatory left) i (allItems (S .graph)) (k .0) (is-mandatory left i (left-mark i h ∙ mandatory-stays S i (mandatory-mark S i .0 (k .1))))
+          let k = mandatory-item-is S i m in
+          is-mandatory-item left i (k .0) (is-mandatory left i (left-mark i (k .0) ∙ mandatory-stays S i (mandatory-mark S i .0 (k .1))))

@@ -66,7 +66,7 @@ verdict-goals S f = go (verdict S) (verdict-is S)
     go : (v : Verdict) → VerdictIs S v → Goals S (v .goals)
     go v (one n) = record { few = omega arith; items = tt; rising = refl }
     go v (two i s h m n l) = record { few = omega arith; items = (h, tt); rising = refl }
-    go v (three s m n) = record { few = f; items = below-le (S .graph .nodes) (itemCount (S .graph)) (required S) (omega arith) (required-below S); rising = required-ascend S }
+    go v (three s m n) = record { few = f; items = required-below S; rising = required-ascend S }
     go v (stands s m n) = record { few = omega arith; items = tt; rising = refl }
 
 -- the marks of verdict 0 as bytes

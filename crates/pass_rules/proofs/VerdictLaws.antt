@@ -10,14 +10,14 @@ use Rattle.lists.proofs.MemberLaws.{member-head, member-one, member-none, keep-
 use Rattle.lists.proofs.TestLaws.{and-true, true-and, true-of, false-of, not-true}
 use Rattle.lists.specs.Lists.{pick, member}
 use Rattle.sheet.proofs.MarkLaws.{is-item, item-is, open-mark}
-use Rattle.sheet.specs.Sheet.{Sheet, markOf, isOpen, isMandatory, isForbidden, allItems, required}
+use Rattle.sheet.specs.Sheet.{Sheet, markOf, isOpen, isMandatory, isForbidden, allItems, isForced, required}
 use Rattle.walks.proofs.FitsLaws.{fits-mono, fits-none, none-fits, fits-some, some-fits}
 use Rattle.walks.proofs.GoalLaws.{Includes}
 use Rattle.walks.proofs.Join.{meets-all}
 use Rattle.walks.proofs.LeastLaw.{fit-walk, walk-fit}
 use Rattle.walks.specs.Graph.{itemCount, items}
 use Rattle.walks.specs.Walk.{NoWalk, SomeWalk}
-use Rattle.pass_rules.specs.Verdict.{fitsSheet, unmet, Verdict, verdictFrom, verdict, isPruned, isForced, newMark}
+use Rattle.pass_rules.specs.Verdict.{fitsSheet, unmet, Verdict, verdictFrom, verdict, isPruned, newMark}
 
 -- no walk from source to target, clear of the forbidden items, meets the goals within the limit; some walk does
 abbrev pub NoWalkOn : Sheet → List ℕ → Type 0

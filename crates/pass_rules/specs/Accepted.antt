@@ -15,7 +15,7 @@ unfoldable pub overlong : Least → Bool
 overlong none = false
 overlong (some a) = ltb 4294967295 a
 
--- 14: some walk clear of forbidden items meets all required nodes, but the shortest such walk is longer than 4,294,967,295
+-- 14: some walk clear of forbidden items meets all required items, but the shortest such walk is longer than 4,294,967,295
 unfoldable pub shortEnough : Sheet → List ℕ → Read Sheet
 shortEnough S rest = pick (overlong (least (S .graph) (isForbidden S) (required S) (S .source) (S .target))) (refuse 14) (got S rest)
 

@@ -1,11 +1,10 @@
 -- The verdict, the marks that a pass leaves and its slip (document 01, 'The pass, in its order').
 use Prim.Native.Nat.{ℕ, zero, suc}
-use mathlib.Core.Bool.{Bool, true, false, not, _&&_, _||_}
+use mathlib.Core.Bool.{Bool, true, false, not, _&&_}
 use mathlib.Core.List.{List, [], _∷_, map}
-use lib.Dec.{eqb, ltb}
 use Rattle.lists.specs.Lists.{pick, keep}
 use Rattle.walks.specs.Graph.{fits}
-use Rattle.sheet.specs.Sheet.{Sheet, markOf, isOpen, isMandatory, isForbidden, allItems, allArcs, endsMandatory, required}
+use Rattle.sheet.specs.Sheet.{Sheet, markOf, isOpen, isMandatory, isForbidden, allItems, isForced, required}
 use Rattle.sheet.specs.Slip.{Slip, slipBytes, marksBytes}
 use Rattle.reason_list.specs.Reasons.{reasons}
 
@@ -22,12 +21,12 @@ pub record Verdict : Type 0 where
   pub number : ℕ
   pub goals : List ℕ
 
--- from: some walk fits; the mandatory items that none meets; some walk meets all required nodes; the required nodes
+-- from: some walk fits; the mandatory items that none meets; some walk meets all required items; the required items
 unfoldable pub verdictFrom : Bool → List ℕ → Bool → List ℕ → Verdict
-verdictFrom false missed all nodes = record { number = 1; goals = [] }
-verdictFrom true (i ∷ missed) all nodes = record { number = 2; goals = i ∷ [] }
-verdictFrom true [] false nodes = record { number = 3; goals = nodes }
-verdictFrom true [] true nodes = record { number = 0; goals = [] }
+verdictFrom false missed all items = record { number = 1; goals = [] }
+verdictFrom true (i ∷ missed) all items = record { number = 2; goals = i ∷ [] }
+verdictFrom true [] false items = record { number = 3; goals = items }
+verdictFrom true [] true items = record { number = 0; goals = [] }
 
 unfoldable pub verdict : Sheet → Verdict
 verdict S = verdictFrom (fitsSheet S []) (unmet S) (fitsSheet S (required S)) (required S)
@@ -36,12 +35,8 @@ verdict S = verdictFrom (fitsSheet S []) (unmet S) (fitsSheet S (required S)) (r
 unfoldable pub isPruned : Sheet → ℕ → Bool
 isPruned S i = isOpen S i && not (fitsSheet S (i ∷ []))
 
--- an open node that is source, target or an end of a mandatory arc becomes mandatory
-unfoldable pub isForced : Sheet → ℕ → Bool
-isForced S i =
-    ltb i (S .graph .nodes) && (eqb i (S .source) || (eqb i (S .target) || endsMandatory S i (allArcs (S .graph))))
-
--- an item's mark after a pass with verdict 0; nothing else changes
+-- an item's mark after a pass with verdict 0: one that is pruned becomes forbidden, an open node that is source, target or an end of a mandatory arc
+-- mandatory, and nothing else changes
 unfoldable pub newMark : Sheet → ℕ → ℕ
 newMark S i = pick (isPruned S i) 2 (pick (isOpen S i && isForced S i) 1 (markOf S i))
 

@@ -57,11 +57,11 @@ module _ {h : Header} {arcs marks : List ℕ} (W : Whole h arcs marks) where
           let s = span-member (itemCount (graphOf (h .nodes) arcs)) 0 x (m .0) in
           absurd (omega (arith, s .1, items-are W, z))
 
-  -- the required nodes as goals
+  -- the required items as goals
   pub required-sought : Sought h arcs marks (required (sheetOf h arcs marks))
   required-sought = whole-sought W (record {
     eight = W .eight;
-    below = λ i l. omega (arith, goals-at (h .nodes) i (required (sheetOf h arcs marks)) (required-below (sheetOf h arcs marks)) l);
+    below = λ i l. omega (arith, goals-at (itemCount (graphOf (h .nodes) arcs)) i (required (sheetOf h arcs marks)) (required-below (sheetOf h arcs marks)) l, items-are W);
     distinct = ascends-distinct (required (sheetOf h arcs marks)) (required-ascend (sheetOf h arcs marks));
   })
 

@@ -45,7 +45,7 @@ pub struct Verdict {
     pub count: usize,
 }
 
-// The verdict where each mandatory item is met: 3 with the required nodes as goals, or 0.
+// The verdict where each mandatory item is met: 3 with the required items as goals, or 0.
 fn judge_together(
     header: Header,
     arcs: &[u32],
@@ -57,7 +57,7 @@ fn judge_together(
     requires { let S = sheetOf header (now arcs) (now marks) in ⌜ (fitsSheet S [] ≡ true) × (unmet S ≡ []) ⌝ }
     ensures { λ r. ⌜ VerdictFound header (now (arcs .entry)) (now (marks .entry)) r (now (goals .exit)) (now (scratch .exit)) ⌝ }
 {
-    let count = sheet_required::required_nodes(header, arcs, marks, goals);
+    let count = sheet_required::required_items(header, arcs, marks, goals);
     if count == 0 {
         return Verdict {
             number: 0,

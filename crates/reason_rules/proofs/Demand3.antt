@@ -2,7 +2,7 @@
 -- by itself (`reasons-valid`), so it does so wherever it is shut and the limit is no greater. Assumes nothing.
 use Prim.Native.Nat.{ℕ, zero, suc, _≤_, _<_}
 use mathlib.Core.Path.{_≡_, refl, sym, ap, _∙_, subst}
-use mathlib.Core.Logic.{_⊎_, inl, inr, ⊎-elim}
+use mathlib.Core.Logic.{_⊎_, inl, inr, ⊎-elim, _↔_}
 use mathlib.Core.Bool.{true, false, not, true≢false}
 use mathlib.Core.List.{List, [], _∷_}
 use native.Mathlib.Omega.{arith}
@@ -12,22 +12,23 @@ use lib.Dec.{eqb}
 use borrow.Author.Tests.{eqb-true, eqb-false}
 use Rattle.reason_list.proofs.ReasonLaws.{reasons-closed, reasons-valid, reasons-minimal}
 use Rattle.reason_list.specs.Reasons.{but}
-use Rattle.lists.proofs.MemberLaws.{member-head, member-none, member-one}
 use Rattle.lists.proofs.TestLaws.{false-back, and-true, not-true, true-or-false}
 use Rattle.lists.specs.Lists.{member}
-use Rattle.sheet.proofs.MarkLaws.{required-is, is-open, is-mandatory}
+use Rattle.sheet.proofs.MarkLaws.{required-mandatory, is-open, is-mandatory, mandatory-mark, marked-item}
 use Rattle.sheet.proofs.SheetLaws.{good-mark}
-use Rattle.sheet.specs.Sheet.{Sheet, isForbidden, required, isOpen, markOf}
+use Rattle.sheet.specs.Good.{Good}
+use Rattle.sheet.specs.Sheet.{Sheet, isMandatory, isForbidden, isOpen, markOf}
 use Rattle.sheet.specs.Slip.{Slip}
 use Rattle.varint.specs.Varint.{got}
 use Rattle.pass_rules.proofs.AcceptedLaws.{accepted-good}
-use Rattle.pass_rules.proofs.Demand2.{is-demanded, required-demanded, demanded-met, verdict-in, marks-exact, refuses-is, is-refused}
+use Rattle.pass_rules.proofs.Demand2.{mandatory-met, verdict-in, marks-exact, refuses-is, is-refused}
+use Rattle.pass_rules.proofs.MetLaws.{is-mandatory-item}
 use Rattle.pass_rules.proofs.SlipOfPass.{pass-finishes}
-use Rattle.pass_rules.proofs.VerdictLaws.{one, Stands, stands-all, fits-fewer, refused-goals, VerdictIs, verdict-is, two, three, stands, pruned-mark, forbidden-stays}
+use Rattle.pass_rules.proofs.VerdictLaws.{Stands, stands-all, fits-fewer, refused-goals, pruned-mark, forbidden-stays}
 use Rattle.pass_rules.specs.Accepted.{accepted}
 use Rattle.pass_rules.specs.Pass.{Refuses, EndsForbidden}
-use Rattle.pass_rules.specs.Route.{demandedNodes}
-use Rattle.pass_rules.specs.Verdict.{reasonsFor, fitsSheet, slipFor, Verdict, verdict, isPruned, newMark, passSlip}
+use Rattle.pass_rules.specs.Route.{mandatory}
+use Rattle.pass_rules.specs.Verdict.{reasonsFor, fitsSheet, slipFor, verdict, isPruned, newMark, passSlip}
 use Rattle.walks.proofs.FitsLaws.{fits-anti, none-fits}
 use Rattle.walks.specs.Graph.{Graph, Arc, noArc, tailOf, headOf, weightOf, itemCount}
 use Rattle.walks.specs.Walk.{NoWalk, SomeWalk}
@@ -82,38 +83,28 @@ blocks-later S list goals sheet T b L =
     (λ j h o. false-back (member j list) (isForbidden T j) (L .closed j) o) (λ g m. m) (L .limit)
     (none-fits (S .graph) (S .source) (S .target) (S .limit) (λ j. member j list) goals b))
 
--- Goals that one walk meets wherever each is demanded and the round stands: nodes, or one item alone.
-pub data Goals (G : Graph) : List ℕ → Type 0 where
-  nodes : {goals : List ℕ} → ((g : ℕ) → member g goals ≡ true → g < G .nodes) → Goals G goals
-  alone : (i : ℕ) → i < itemCount G → Goals G (i ∷ [])
+-- every required item is mandatory, so that what is demanded is what is mandatory
+pub demanded-mandatory : (S : Sheet) (g : ℕ) → Demanded S g ↔ (isMandatory S g ≡ true)
+demanded-mandatory S g = (⊎-elim (λ m. m) (required-mandatory S g), inl)
 
-verdict-goals : (S : Sheet) → (verdict S .number ≡ 0 → ⊥) → Goals (S .graph) (verdict S .goals)
-verdict-goals S n = go (verdict S) (verdict-is S) n
+-- where a round stands, some walk meets everything demanded
+stands-meets : (T : Sheet) (goals : List ℕ) → Good T → Stands T → ((g : ℕ) → member g goals ≡ true → Demanded T g) → fitsSheet T goals ≡ true
+stands-meets T goals k z d = fits-fewer T (mandatory T) goals met (mandatory-met T (z .together))
   where
-    go : (v : Verdict) → VerdictIs S v → (v .number ≡ 0 → ⊥) → Goals (S .graph) (v .goals)
-    go v (one e) n = nodes (λ g m. absurd (member-none g m))
-    go v (two i s h m e l) n = alone i h
-    go v (three s m e) n = nodes (λ g m. required-is S g m .node)
-    go v (stands s m e) n = absurd (n refl)
+    met : (g : ℕ) → member g goals ≡ true → member g (mandatory T) ≡ true
+    met g m =
+        let q = demanded-mandatory T g .0 (d g m) in
+        is-mandatory-item T g (marked-item T g 0 (k .size) (mandatory-mark T g .0 q)) q
 
--- where a round stands, everything demanded is met
-stands-meets : (T : Sheet) {goals : List ℕ} → Stands T → Goals (T .graph) goals → ((g : ℕ) → member g goals ≡ true → Demanded T g)
-    → fitsSheet T goals ≡ true
-stands-meets T {goals} z (nodes below) d =
-    fits-fewer T (demandedNodes T) goals (λ g m. ⊎-elim (λ q. is-demanded T g (below g m) (inl q)) (required-demanded T g) (d g m)) (demanded-met T (z .together))
-stands-meets T z (alone i h) d =
-    ⊎-elim (z .each i h) (λ m. fits-fewer T (required T) (i ∷ []) (λ j q. rw (member-one j i q) m) (z .together)) (d i (member-head i []))
-
--- Demand 3's step: a list that blocks some goals on a sheet has the pass refuse every later sheet's round where these goals are demanded.
-pub blocks-again : (S : Sheet) (list goals later : List ℕ) (T : Sheet) → Blocks S list goals → Goals (S .graph) goals → Later S list later T
+-- Demand 3's step: a list that blocks some goals on a sheet, whatever they are, has the pass refuse every later sheet's round where these goals are
+-- demanded.
+pub blocks-again : (S : Sheet) (list goals later : List ℕ) (T : Sheet) → Blocks S list goals → Later S list later T
     → ((g : ℕ) → member g goals ≡ true → Demanded T g) → (s : Slip) × Refuses later s
-blocks-again S list goals later T b g L d = (
+blocks-again S list goals later T b L d = (
   slipFor T (verdict T .number) (verdict T .goals),
-  is-refused later T (L .accepts) (λ z. true≢false (sym (stands-meets T (stands-all T z) there d) ∙ blocks-later S list goals later T b L)),
+  is-refused later T (L .accepts)
+      (λ z. true≢false (sym (stands-meets T goals (accepted-good later T [] (L .accepts)) (stands-all T z) d) ∙ blocks-later S list goals later T b L)),
 )
-  where
-    there : Goals (T .graph) goals
-    there = rw (map-eq (S .graph) (T .graph) (L .map)) g
 
 -- a pruned item is met by no walk
 pruned-unmet : (S : Sheet) (i : ℕ) → isPruned S i ≡ true → fitsSheet S (i ∷ []) ≡ false
@@ -162,8 +153,7 @@ module _ (sheet : List ℕ) (S : Sheet) (a : accepted sheet ≡ got S []) where
       let y = refuses-is sheet S a s r in
       let L′ : Later S (reasonsFor S (verdict S .goals)) later T = subst (λ (s : Slip). Later S (s .reasons) later T) (y .1) L in
       let d′ : (g : ℕ) → member g (verdict S .goals) ≡ true → Demanded T g = subst (λ (s : Slip). (g : ℕ) → member g (s .goals) ≡ true → Demanded T g) (y .1) d in
-      blocks-again S (reasonsFor S (verdict S .goals)) (verdict S .goals) later T (list-valid S (verdict S .goals) (refused-goals S (y .0)))
-      (verdict-goals S (y .0)) L′ d′
+      blocks-again S (reasonsFor S (verdict S .goals)) (verdict S .goals) later T (list-valid S (verdict S .goals) (refused-goals S (y .0))) L′ d′
 
   -- For every closure listed, once it and everything unlisted are open and only the other listed ones shut, some walk within the limit meets
   -- everything named: for a refused round,

@@ -37,6 +37,6 @@ pub record Later (S : Sheet) (list : List ℕ) (sheet : List ℕ) (T : Sheet) : 
   pub closed : (j : ℕ) → member j list ≡ true → isForbidden T j ≡ true
   pub limit : T .limit ≤ S .limit
 
--- A goal is demanded on a sheet that has it as mandatory or as a required node.
+-- A goal is demanded on a sheet that has it as mandatory or as a required item.
 abbrev pub Demanded : Sheet → ℕ → Type 0
 Demanded S g = (isMandatory S g ≡ true) ⊎ (member g (required S) ≡ true)

@@ -138,12 +138,12 @@ sheet-good bs S rest e =
     let a = after-got (readHeader bs) readArcs S rest e in
     arcs-got (a .0) (header-good bs (a .0) (a .1) (a .2)) (a .1) S rest (a .3)
 
--- a sheet is taken exactly when it is read with nothing left and at most eight nodes are required
+-- a sheet is taken exactly when it is read with nothing left and at most eight items are required
 pub record Taken (bs : List ℕ) (S : Sheet) : Type 0 where
   pub whole : readSheet bs ≡ got S []
   pub few : length (required S) ≤ 8
 
--- bytes that remain draw 12, however many nodes are required
+-- bytes that remain draw 12, however many items are required
 remain : (S : Sheet) (b : ℕ) (bs : List ℕ) → complete S (b ∷ bs) ≡ refuse 12
 unfolding complete
 remain S b bs = refl
@@ -172,7 +172,7 @@ got-taken bs S T = rw (T .whole, le-leb (length (required S)) 8 (T .few))
 pub taken-good : (bs : List ℕ) (S : Sheet) → Taken bs S → Good S
 taken-good bs S T = sheet-good bs S [] (T .whole)
 
--- so in a sheet; with none left, more than eight required nodes draw 13
+-- so in a sheet; with none left, more than eight required items draw 13
 pub bytes-remain : (bs : List ℕ) (S : Sheet) (b : ℕ) (rest : List ℕ) → readSheet bs ≡ got S (b ∷ rest) → taken bs ≡ refuse 12
 unfolding taken after
 bytes-remain bs S b rest e = rw e (remain S b rest)

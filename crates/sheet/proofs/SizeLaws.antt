@@ -2,7 +2,7 @@
 -- nothing.
 use Prim.Native.Nat.{ℕ, _*_, _≤_}
 use mathlib.Core.Path.{_≡_, refl, ap, _∙_}
-use mathlib.Core.Bool.{Bool, true, false, not, false≢true}
+use mathlib.Core.Bool.{Bool, true, false}
 use mathlib.Core.List.{List, [], _∷_, _++_}
 use native.Mathlib.Omega.{arith}
 use lib.ListN.{length, length-append, replicate}
@@ -13,10 +13,9 @@ use Rattle.lists.proofs.Pigeonhole.{Below}
 use Rattle.lists.proofs.FrontLaws.{zeros-at}
 use Rattle.lists.proofs.AscendLaws.{keep-none}
 use Rattle.lists.proofs.RowLaws.{rows-append}
-use Rattle.lists.proofs.TestLaws.{and-true, false-of}
 use Rattle.varint.proofs.WriteLaws.{numbers-rows, number-short}
 use Rattle.varint.specs.Varint.{got, writeGroups, writeNumber, writeNumbers}
-use Rattle.walks.specs.Graph.{Arc, arcItem}
+use Rattle.walks.specs.Graph.{Arc, itemCount}
 use Rattle.walks.specs.Flat.{arcsOf, flat}
 use Rattle.sheet.proofs.FaultLaws.{draft-low}
 use Rattle.sheet.proofs.SheetLaws.{taken-got, taken-good}
@@ -25,7 +24,7 @@ use Rattle.sheet.specs.Answer.{finished, refused, wrote, fitted}
 use Rattle.sheet.specs.Draft.{headerNumbers, sheetNumbers, sheetBytes, Draft, sheetDraft, draftSheet}
 use Rattle.sheet.specs.Good.{Good, GoodArc, All}
 use Rattle.sheet.specs.Reader.{taken}
-use Rattle.sheet.specs.Sheet.{Sheet, headerOf, markOf, isMandatory, endsMandatory, isRequired, required, allNodes, allArcs}
+use Rattle.sheet.specs.Sheet.{Sheet, headerOf, markOf, isMandatory, isRequired, required, allItems}
 use Rattle.sheet.specs.Writer.{fault, firstOf, headerFault, sizeFault, arcFault, arcsFault, marksFault, requiredFault, draftFault, writeOn, sheetWritten}
 
 arcs-short : (n : ℕ) → n ≤ 64 → (xs : List Arc) → All (GoodArc n) xs → length (writeNumbers (flat xs)) ≤ 5 * length xs
@@ -79,20 +78,9 @@ written-size d out = go (eqb (draftFault d) 0) refl (leb (length (sheetBytes (dr
     go false e u = (omega (arith, draft-low d), omega arith)
 
 -- with no mark of 1 nothing is required
-unmarked-ends : (S : Sheet) (p : ℕ) (ls : List ℕ) → ((i : ℕ) → isMandatory S i ≡ false) → endsMandatory S p ls ≡ false
-unfolding endsMandatory
-unmarked-ends S p [] h = refl
-unmarked-ends S p (l ∷ ls) h = rw (h (arcItem (S .graph) l), unmarked-ends S p ls h)
-
 unmarked : (S : Sheet) → ((i : ℕ) → isMandatory S i ≡ false) → required S ≡ []
-unfolding required allNodes isRequired
-unmarked S h = keep-none (isRequired S) (S .graph .nodes) 0 (λ j l g. false-of (isRequired S j) (λ e. never j e))
-  where
-    never : (j : ℕ) → isRequired S j ≡ true → ⊥
-    never j e =
-        let s = and-true (not (eqb j (S .source))) _ e in
-        let t = and-true (not (eqb j (S .target))) _ (s .1) in
-        false≢true (rw (h j, unmarked-ends S j (allArcs (S .graph)) h) at (t .1))
+unfolding required allItems isRequired
+unmarked S h = keep-none (isRequired S) (itemCount (S .graph)) 0 (λ j l g. rw (h j))
 
 -- a longest sheet: 64 nodes, 512 arcs of 65,535 minutes, a limit of 1,000,000
 longest : Sheet

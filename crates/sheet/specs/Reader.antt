@@ -83,7 +83,7 @@ readArcs h bs = after (several (readArc (h .nodes)) (h .arcs) bs) (readMarks h)
 unfoldable pub readSheet : List ℕ → Read Sheet
 readSheet bs = after (readHeader bs) readArcs
 
--- no bytes may remain (12), and at most eight nodes may be required (13)
+-- no bytes may remain (12), and at most eight items may be required (13)
 unfoldable pub complete : Sheet → List ℕ → Read Sheet
 complete S (b ∷ bs) = refuse 12
 complete S [] = pick (leb (length (required S)) 8) (got S []) (refuse 13)

@@ -1,10 +1,11 @@
 -- A sheet as it is read: graph, source, target (document 01: start, finish), limit and marks.
-use Prim.Native.Nat.{ℕ, _+_, _*_}
+use Prim.Native.Nat.{ℕ, _+_, _*_, _<_}
 use mathlib.Core.Path.{_≡_}
-use mathlib.Core.Bool.{Bool, false, not, _&&_, _||_}
+use mathlib.Core.Logic.{_⊎_}
+use mathlib.Core.Bool.{Bool, true, false, not, _&&_, _||_}
 use mathlib.Core.List.{List, [], _∷_}
 use lib.ListN.{getD, length}
-use lib.Dec.{eqb}
+use lib.Dec.{eqb, ltb}
 use Rattle.lists.specs.Lists.{keep, span}
 use Rattle.walks.specs.Graph.{Graph, tailOf, headOf, arcItem, itemCount, closedIn}
 use Rattle.walks.specs.Flat.{graphOf}
@@ -48,9 +49,6 @@ isForbidden S = closedIn (S .marks)
 unfoldable pub allItems : Graph → List ℕ
 allItems G = span (itemCount G) 0
 
-unfoldable pub allNodes : Graph → List ℕ
-allNodes G = span (G .nodes) 0
-
 unfoldable pub allArcs : Graph → List ℕ
 allArcs G = span (length (G .arcs)) 0
 
@@ -60,11 +58,22 @@ endsMandatory S p [] = false
 endsMandatory S p (l ∷ ls) =
     (isMandatory S (arcItem (S .graph) l) && (eqb (tailOf (S .graph) l) p || eqb (headOf (S .graph) l) p)) || endsMandatory S p ls
 
--- a counted stop: a node other than source and target that is mandatory or ends a mandatory arc
-unfoldable pub isRequired : Sheet → ℕ → Bool
-isRequired S p =
-    not (eqb p (S .source)) && (not (eqb p (S .target)) && (isMandatory S p || endsMandatory S p (allArcs (S .graph))))
+-- what every route meets whatever else is marked: the source, the target, and the ends of mandatory arcs
+pub data Forced (S : Sheet) (p : ℕ) : Type 0 where
+  is-source : p ≡ S .source → Forced S p
+  is-target : p ≡ S .target → Forced S p
+  ends-arc : (l : ℕ) → l < length (S .graph .arcs) → isMandatory S (arcItem (S .graph) l) ≡ true
+      → (tailOf (S .graph) l ≡ p) ⊎ (headOf (S .graph) l ≡ p) → Forced S p
 
--- the counted stops, ascending
+-- the item is a node, and source, target or an end of a mandatory arc
+unfoldable pub isForced : Sheet → ℕ → Bool
+isForced S i =
+    ltb i (S .graph .nodes) && (eqb i (S .source) || (eqb i (S .target) || endsMandatory S i (allArcs (S .graph))))
+
+-- a counted thing: a mandatory arc, or a mandatory node that is neither source, target nor an end of a mandatory arc
+unfoldable pub isRequired : Sheet → ℕ → Bool
+isRequired S i = isMandatory S i && not (isForced S i)
+
+-- the counted things, ascending
 unfoldable pub required : Sheet → List ℕ
-required S = keep (isRequired S) (allNodes (S .graph))
+required S = keep (isRequired S) (allItems (S .graph))

@@ -48,7 +48,7 @@ unfoldable pub marksFault : List ℕ → ℕ
 marksFault [] = 0
 marksFault (x ∷ xs) = firstOf (fault 11 (isMark x)) (marksFault xs)
 
--- more than eight required nodes (13)
+-- more than eight required items (13)
 unfoldable pub requiredFault : Draft → ℕ
 requiredFault d = fault 13 (leb (length (required (draftSheet d))) 8)
 

@@ -15,7 +15,7 @@ use sheet::Header;
 use sheet_parts::HeaderRead;
 use walks::GOALS;
 
-// Whether at most eight nodes are required; the arcs' numbers and the marks stand in front.
+// Whether at most eight items are required; the arcs' numbers and the marks stand in front.
 fn few_required(header: Header, arcs: &[u32], marks: &[u8]) -> bool
     requires { ⌜ (header .nodes ≤ 64) × (header .arcs ≤ 512) × (1536 ≤ length (now arcs)) × (576 ≤ length (now marks)) ⌝ }
     ensures { λ r. let xs = take (3 * header .arcs) (now (arcs .entry)) in
@@ -23,8 +23,8 @@ fn few_required(header: Header, arcs: &[u32], marks: &[u8]) -> bool
 {
     let numbers = 3 * header.arcs;
     let items = header.nodes + header.arcs;
-    let mut nodes = [0usize; GOALS];
-    sheet_required::required_nodes(header, &arcs[..numbers], &marks[..items], &mut nodes) <= GOALS
+    let mut list = [0usize; GOALS];
+    sheet_required::required_items(header, &arcs[..numbers], &marks[..items], &mut list) <= GOALS
 }
 
 // A sheet that was taken, by the five numbers in front of it, or the refusal, 3 to 13.

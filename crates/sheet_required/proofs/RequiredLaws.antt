@@ -1,4 +1,5 @@
--- Laws of the required nodes: the ends of mandatory arcs, marked from the last arc to the first, and the list of the nodes that pass the test.
+-- Laws of the forced nodes and the required items: the ends of mandatory arcs, marked from the last arc to the first, and the list of the items that
+-- pass the test.
 -- Assumes nothing.
 use Prim.Native.Nat.{ℕ, suc, _+_, _-_, _*_, _≤_, _<_}
 use mathlib.Core.Path.{_≡_, refl, ap, sym, _∙_}
@@ -9,15 +10,16 @@ use native.Mathlib.Numerals.{add-one}
 use lib.Dec.{eqb, ltb}
 use lib.ListN.{length, getD, set, take, replicate, getD-replicate, length-append, length-set, length-take}
 use lib.Seq.{getD-set-same, getD-set-other, set-out, take-all, take-nil, take-append-le}
-use borrow.Author.Tests.{eqb-true, eqb-false, ltb-true, ltb-false}
+use borrow.Author.Tests.{eqb-true, eqb-false, eq-eqb, ne-eqb, ltb-true, ltb-false, lt-ltb}
 use Rattle.lists.specs.Lists.{pick, front, add, keep, span}
 use Rattle.lists.proofs.FrontLaws.{length-front, push}
 use Rattle.walks.specs.Graph.{Arc, noArc, tailOf, headOf, arcItem}
 use Rattle.walks.specs.Flat.{arcsOf, graphOf}
 use Rattle.walks.proofs.FlatLaws.{arc-at, arcs-many}
 use Rattle.sheet.specs.declared.Header.{Header}
-use Rattle.sheet.specs.Sheet.{markOf, isMandatory, endsMandatory, allArcs, isRequired, sheetOf, Sized}
-use Rattle.sheet_required.specs.Whole.{Ends, RoomListed}
+use Rattle.sheet.proofs.MarkLaws.{arc-free}
+use Rattle.sheet.specs.Sheet.{Sheet, markOf, isMandatory, isForced, endsMandatory, allArcs, isRequired, sheetOf, Sized}
+use Rattle.sheet_required.specs.Whole.{Ends, ForcedNodes, RoomListed}
 
 -- a mark of 1 that is set at i, seen from p
 set-one : (xs : List ℕ) (i p : ℕ) → p < length xs → eqb (getD (set xs i 1) p 0) 1 ≡ (eqb i p || eqb (getD xs p 0) 1)
@@ -26,6 +28,13 @@ set-one xs i p h = go (eqb i p) refl
     go : (t : Bool) → eqb i p ≡ t → eqb (getD (set xs i 1) p 0) 1 ≡ (t || eqb (getD xs p 0) 1)
     go true e = let q : i ≡ p = eqb-true i p e in rw (q, getD-set-same xs p 1 0 h)
     go false e = rw (getD-set-other xs i p 1 0 (λ q. eqb-false i p e (sym q)))
+
+eqb-sym : (a b : ℕ) → eqb a b ≡ eqb b a
+eqb-sym a b = go (eqb a b) refl
+  where
+    go : (t : Bool) → eqb a b ≡ t → t ≡ eqb b a
+    go true e = sym (eq-eqb b a (sym (eqb-true a b e)))
+    go false e = sym (ne-eqb b a (λ q. eqb-false a b e (sym q)))
 
 either-end : (a b d : Bool) → (b || (a || d)) ≡ ((a || b) || d)
 either-end true true d = refl
@@ -105,11 +114,34 @@ module _ (h : Header) (xs ms : List ℕ) where
         let e : h .arcs - 0 ≡ h .arcs = omega arith in
         record { size = w .size; each = λ p q. w .each p q ∙ rw (z, e, arcs-many xs (h .arcs) (sized .0)) }
 
-  pub required-by :
-      {ends : List ℕ} → Ends (sheetOf h xs ms) ends → (p : ℕ) → p < 64
-      → (not (eqb p (h .source)) && (not (eqb p (h .target)) && (eqb (getD ms p 0) 1 || eqb (getD ends p 0) 1))) ≡ isRequired (sheetOf h xs ms) p
-  unfolding isRequired isMandatory markOf
-  required-by w p l = rw (w .each p l)
+-- source and target are put in
+pub forced-are : (S : Sheet) {ends : List ℕ} → Ends S ends → S .graph .nodes ≤ 64 → ForcedNodes S (set (set ends (S .source) 1) (S .target) 1)
+unfolding isForced
+forced-are S {ends} E few = record {
+  size = simp length-set (E .size);
+  each = λ p h. rw (lt-ltb p (S .graph .nodes) h) (put p (omega arith) ∙ rw (eqb-sym (S .source) p, eqb-sym (S .target) p) (other-end (eqb p (S .target)) (eqb p (S .source)) _));
+}
+  where
+    put : (p : ℕ) → p < 64 → eqb (getD (set (set ends (S .source) 1) (S .target) 1) p 0) 1 ≡ (eqb (S .target) p || (eqb (S .source) p || endsMandatory S p (allArcs (S .graph))))
+    put p h =
+        set-one (set ends (S .source) 1) (S .target) p (rw length-set (omega (arith, E .size)))
+        ∙ ap (λ (b : Bool). eqb (S .target) p || b) (set-one ends (S .source) p (omega (arith, E .size)) ∙ ap (λ (b : Bool). eqb (S .source) p || b) (E .each p h))
+
+    other-end : (a b d : Bool) → (a || (b || d)) ≡ (b || (a || d))
+    other-end true true d = refl
+    other-end true false d = refl
+    other-end false true d = refl
+    other-end false false d = refl
+
+-- the test of an item, by its mark and the forced nodes
+pub required-by : (S : Sheet) {forced : List ℕ} → ForcedNodes S forced → (i : ℕ)
+    → (eqb (getD (S .marks) i 0) 1 && not (ltb i (S .graph .nodes) && eqb (getD forced i 0) 1)) ≡ isRequired S i
+unfolding isRequired isMandatory markOf
+required-by S {forced} w i = ap (λ (b : Bool). eqb (getD (S .marks) i 0) 1 && not b) (go (ltb i (S .graph .nodes)) refl)
+  where
+    go : (t : Bool) → ltb i (S .graph .nodes) ≡ t → (t && eqb (getD forced i 0) 1) ≡ isForced S i
+    go true e = w .each i (ltb-true i (S .graph .nodes) e)
+    go false e = sym (arc-free S i (ltb-false i (S .graph .nodes) e))
 
 -- the numbers below p that pass the test were written over the front of `old`, as far as it has room
 pub record Listing (f : ℕ → Bool) (n : ℕ) (old out : List ℕ) (count p : ℕ) : Type 0 where

@@ -5,7 +5,7 @@ use mathlib.Core.List.{List}
 use lib.ListN.{length, getD, take}
 use lib.Dec.{eqb}
 use Rattle.lists.specs.Lists.{front}
-use Rattle.sheet.specs.Sheet.{Sheet, sheetOf, Sized, required, endsMandatory, allArcs}
+use Rattle.sheet.specs.Sheet.{Sheet, sheetOf, Sized, required, isForced, endsMandatory, allArcs}
 use Rattle.sheet.specs.Good.{Good}
 use Rattle.rows.specs.Net.{netOf, Proper}
 use Rattle.sheet.specs.declared.Header.{Header}
@@ -25,6 +25,11 @@ pub record Whole (h : Header) (arcs marks : List ℕ) : Type 0 where
 pub record Ends (S : Sheet) (ends : List ℕ) : Type 0 where
   pub size : length ends ≡ 64
   pub each : (p : ℕ) → p < 64 → eqb (getD ends p 0) 1 ≡ endsMandatory S p (allArcs (S .graph))
+
+-- a 1 for each node that is source, target or an end of a mandatory arc
+pub record ForcedNodes (S : Sheet) (forced : List ℕ) : Type 0 where
+  pub size : length forced ≡ 64
+  pub each : (p : ℕ) → p < S .graph .nodes → eqb (getD forced p 0) 1 ≡ isForced S p
 
 -- so many entries there are, and as many of them as the list has room for stand in front of it
 pub record RoomListed (xs old list : List ℕ) (n : ℕ) : Type 0 where

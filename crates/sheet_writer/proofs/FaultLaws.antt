@@ -169,7 +169,7 @@ module _ (xs : List ℕ) (i : ℕ) (e : marksFault xs ≡ marksFault (drop i xs)
     pub marks-more : getD xs i 0 ≤ 2 → marksFault xs ≡ marksFault (drop (i + 1) xs)
     marks-more l = next-mark ∙ sym (on 11 _ (le-leb (getD xs i 0) 2 l) refl)
 
--- the count of the required nodes
+-- the count of the required items
 module _ {n k : ℕ} (e : n ≡ k) where
   pub over-eight : 8 < n → 13 ≡ fault 13 (leb k 8)
   over-eight l = fails 13 (lt-leb k 8 (omega arith))

@@ -99,13 +99,13 @@ fn marks_fault(marks: &[u8]) -> u32
     0
 }
 
-// 13 where more than eight nodes are required, else 0.
+// 13 where more than eight items are required, else 0.
 fn required_fault(header: Header, arcs: &[u32], marks: &[u8]) -> u32
     requires { ⌜ Sized header (now arcs) (now marks) × (header .nodes ≤ 64) ⌝ }
     ensures { λ r. ⌜ r ≡ requiredFault (draftOf header (now (arcs .entry)) (now (marks .entry))) ⌝ }
 {
-    let mut nodes = [0usize; GOALS];
-    if GOALS < sheet_required::required_nodes(header, arcs, marks, &mut nodes) {
+    let mut list = [0usize; GOALS];
+    if GOALS < sheet_required::required_items(header, arcs, marks, &mut list) {
         return 13;
     }
     0

@@ -11,11 +11,11 @@ use lib.Dec.{eqb}
 use Rattle.lists.specs.Lists.{pick, keep, span}
 use Rattle.varint.specs.Varint.{got}
 use Rattle.walks.specs.Graph.{itemCount}
-use Rattle.sheet.specs.Sheet.{Sheet, markOf, isOpen, allItems}
+use Rattle.sheet.specs.Sheet.{Sheet, markOf, isOpen, isForced, allItems}
 use Rattle.pass_rules.specs.Accepted.{accepted}
 use Rattle.sheet.specs.Answer.{finished}
 use Rattle.pass_rules.specs.Pass.{passOn, verdictIn, markIn}
-use Rattle.pass_rules.specs.Verdict.{fitsSheet, isPruned, isForced, newMark}
+use Rattle.pass_rules.specs.Verdict.{fitsSheet, isPruned, newMark}
 use Rattle.pass_rules.proofs.AcceptedLaws.{accepted-good}
 use Rattle.pass_rules.proofs.Demand2.{marks-exact}
 use Rattle.text_answer.specs.Text.{newlyForbidden}

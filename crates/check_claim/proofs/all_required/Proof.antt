@@ -1,4 +1,4 @@
--- `check_claim::all_required` meets its contract: the required nodes stand in front of the array. Assumes nothing.
+-- `check_claim::all_required` meets its contract: the required items stand in front of the array. Assumes nothing.
 use Prim.Native.Nat.{ℕ}
 use mathlib.Core.Path.{_≡_, sym, ap, _∙_}
 use mathlib.Core.List.{List}
@@ -11,22 +11,22 @@ use Rattle.sheet_required.proofs.WholeLaws.{room-front}
 use Rattle.check_claim.proofs.all_required.Statement.{statement}
 use Rattle.check_claim.proofs.all_required.Tie as tie
 
-slice-aggregate-required-nodes : tie.Need-slice-aggregate-required-nodes
-slice-aggregate-required-nodes c = search needs
+slice-aggregate-required-items : tie.Need-slice-aggregate-required-items
+slice-aggregate-required-items c = search needs
 
-required-nodes-requires : tie.Need-required-nodes-requires
-required-nodes-requires c κs = search needs
+required-items-requires : tie.Need-required-items-requires
+required-items-requires c κs = search needs
 
--- the nodes that were listed
-listed : (p : tie.After-required-nodes) → let s = p .before .before .before .before .before in
-    take (p .required-nodes .result) (p .required-nodes .last .1 .1 .1 .0) ≡ required (sheetOf (s .args .header) (s .args .arcs .now) (s .args .marks .now))
-listed p = room-front (p .required-nodes .ensures) (omega (arith, p .before .before .before .before .before .pre .eight))
+-- the items that were listed
+listed : (p : tie.After-required-items) → let s = p .before .before .before .before .before in
+    take (p .required-items .result) (p .required-items .last .1 .1 .1 .0) ≡ required (sheetOf (s .args .header) (s .args .arcs .now) (s .args .marks .now))
+listed p = room-front (p .required-items .ensures) (omega (arith, p .before .before .before .before .before .pre .eight))
 
-array-share-prefix-nodes : tie.Need-array-share-prefix-nodes
-array-share-prefix-nodes c = let q = c .before .required-nodes in omega (arith, q .ensures .counted, q .kept .1 .1 .1 .0, c .before .before .before .before .before .before .pre .eight)
+array-share-prefix-items : tie.Need-array-share-prefix-items
+array-share-prefix-items c = let q = c .before .required-items in omega (arith, q .ensures .counted, q .kept .1 .1 .1 .0, c .before .before .before .before .before .before .pre .eight)
 
 slice-aggregate-all-listed : tie.Need-slice-aggregate-all-listed
-slice-aggregate-all-listed c = c .before .before .required-nodes .ensures .counted ∙ sym (ap length (listed (c .before .before)))
+slice-aggregate-all-listed c = c .before .before .required-items .ensures .counted ∙ sym (ap length (listed (c .before .before)))
 
 all-listed-requires : tie.Need-all-listed-requires
 all-listed-requires c κs = search needs
@@ -40,9 +40,9 @@ pub all-required-spec : {M : Type 1} → statement M
 all-required-spec =
     tie.close
     (tie.spec
-    slice-aggregate-required-nodes
-    required-nodes-requires
-    array-share-prefix-nodes
+    slice-aggregate-required-items
+    required-items-requires
+    array-share-prefix-items
     slice-aggregate-all-listed
     all-listed-requires
     returns)

@@ -1,9 +1,8 @@
 -- `check_claim::well_formed` meets its contract: the tests in their order, the first that fails decides. Assumes nothing.
 use mathlib.Core.Path.{refl}
 use mathlib.Core.Bool.{true, false}
-use borrow.Author.Tests.{eq-eqb, ne-eqb}
 use Rattle.lists.proofs.TestedLaws.{passed, failed}
-use Rattle.check_claim.proofs.FormLaws.{formed-is, three-nodes, other-items}
+use Rattle.check_claim.proofs.FormLaws.{formed-is}
 use borrow.Author.Needs.{needs}
 use Rattle.check_claim.proofs.well_formed.Statement.{statement}
 use Rattle.check_claim.proofs.well_formed.Tie as tie
@@ -15,40 +14,31 @@ all-below-requires : tie.Need-all-below-requires
 all-below-requires c κs = search needs
 
 returns : tie.Need-returns
-returns c = λ S n k. formed-is S _ _ _ _ _ n k false _ _ _ _ _ (failed _ _ (c .before .all-below .ensures) (c .if1 .taken)) refl refl refl refl refl
+returns c = λ S k. formed-is S _ _ _ _ k false _ _ _ _ (failed _ _ (c .before .all-below .ensures) (c .if1 .taken)) refl refl refl refl
 
 all-below-requires-2 : tie.Need-all-below-requires-2
 all-below-requires-2 c κs = search needs
 
 returns-2 : tie.Need-returns-2
-returns-2 c = λ S n k. formed-is S _ _ _ _ _ n k true false _ _ _ _ (passed _ _ (c .before .before .before .all-below .ensures) (c .before .before .if1 .left)) (failed _ _ (c .before .all-below2 .ensures) (c .if2 .taken)) refl refl refl refl
+returns-2 c = λ S k. formed-is S _ _ _ _ k true false _ _ _ (passed _ _ (c .before .before .before .all-below .ensures) (c .before .before .if1 .left)) (failed _ _ (c .before .all-below2 .ensures) (c .if2 .taken)) refl refl refl
 
 ascending-requires : tie.Need-ascending-requires
 ascending-requires c κs = search needs
 
 returns-3 : tie.Need-returns-3
-returns-3 c = λ S n k. formed-is S _ _ _ _ _ n k true true false _ _ _ (passed _ _ (c .before .before .before .before .before .all-below .ensures) (c .before .before .before .before .if1 .left)) (passed _ _ (c .before .before .before .all-below2 .ensures) (c .before .before .if2 .left)) (failed _ _ (c .before .ascending .ensures) (c .if3 .taken)) refl refl refl
+returns-3 c = λ S k. formed-is S _ _ _ _ k true true false _ _ (passed _ _ (c .before .before .before .before .before .all-below .ensures) (c .before .before .before .before .if1 .left)) (passed _ _ (c .before .before .before .all-below2 .ensures) (c .before .before .if2 .left)) (failed _ _ (c .before .ascending .ensures) (c .if3 .taken)) refl refl
 
 ascending-requires-2 : tie.Need-ascending-requires-2
 ascending-requires-2 c κs = search needs
 
 returns-4 : tie.Need-returns-4
-returns-4 c = λ S n k. formed-is S _ _ _ _ _ n k true true true false _ _ (passed _ _ (c .before .before .before .before .before .before .before .all-below .ensures) (c .before .before .before .before .before .before .if1 .left)) (passed _ _ (c .before .before .before .before .before .all-below2 .ensures) (c .before .before .before .before .if2 .left)) (passed _ _ (c .before .before .before .ascending .ensures) (c .before .before .if3 .left)) (failed _ _ (c .before .ascending2 .ensures) (c .if4 .taken)) refl refl
+returns-4 c = λ S k. formed-is S _ _ _ _ k true true true false _ (passed _ _ (c .before .before .before .before .before .before .before .all-below .ensures) (c .before .before .before .before .before .before .if1 .left)) (passed _ _ (c .before .before .before .before .before .all-below2 .ensures) (c .before .before .before .before .if2 .left)) (passed _ _ (c .before .before .before .ascending .ensures) (c .before .before .if3 .left)) (failed _ _ (c .before .ascending2 .ensures) (c .if4 .taken)) refl
 
 count-fits-requires : tie.Need-count-fits-requires
 count-fits-requires c κs = search needs
 
 returns-5 : tie.Need-returns-5
-returns-5 c = λ S n k. formed-is S _ _ _ _ _ n k true true true true false _ (passed _ _ (c .before .before .before .before .before .before .before .before .before .all-below .ensures) (c .before .before .before .before .before .before .before .before .if1 .left)) (passed _ _ (c .before .before .before .before .before .before .before .all-below2 .ensures) (c .before .before .before .before .before .before .if2 .left)) (passed _ _ (c .before .before .before .before .before .ascending .ensures) (c .before .before .before .before .if3 .left)) (passed _ _ (c .before .before .before .ascending2 .ensures) (c .before .before .if4 .left)) (failed _ _ (c .before .count-fits .ensures) (c .if5 .taken)) refl
-
-all-below-requires-3 : tie.Need-all-below-requires-3
-all-below-requires-3 c κs = search needs
-
-returns-6 : tie.Need-returns-6
-returns-6 c = λ S n k. formed-is S _ _ _ _ _ n k true true true true true (c .all-below3 .result) (passed _ _ (c .before .before .before .before .before .before .before .before .before .before .before .all-below .ensures) (c .before .before .before .before .before .before .before .before .before .before .if1 .left)) (passed _ _ (c .before .before .before .before .before .before .before .before .before .all-below2 .ensures) (c .before .before .before .before .before .before .before .before .if2 .left)) (passed _ _ (c .before .before .before .before .before .before .before .ascending .ensures) (c .before .before .before .before .before .before .if3 .left)) (passed _ _ (c .before .before .before .before .before .ascending2 .ensures) (c .before .before .before .before .if4 .left)) (passed _ _ (c .before .before .before .count-fits .ensures) (c .before .before .if5 .left)) (three-nodes (eq-eqb _ 3 (c .before .if6 .taken)) (c .all-below3 .ensures))
-
-returns-7 : tie.Need-returns-7
-returns-7 c = λ S n k. formed-is S _ _ _ _ _ n k true true true true true true (passed _ _ (c .before .before .before .before .before .before .before .before .before .before .all-below .ensures) (c .before .before .before .before .before .before .before .before .before .if1 .left)) (passed _ _ (c .before .before .before .before .before .before .before .before .all-below2 .ensures) (c .before .before .before .before .before .before .before .if2 .left)) (passed _ _ (c .before .before .before .before .before .before .ascending .ensures) (c .before .before .before .before .before .if3 .left)) (passed _ _ (c .before .before .before .before .ascending2 .ensures) (c .before .before .before .if4 .left)) (passed _ _ (c .before .before .count-fits .ensures) (c .before .if5 .left)) (other-items _ (ne-eqb _ 3 (c .if6 .left)))
+returns-5 c = λ S k. formed-is S _ _ _ _ k true true true true (c .count-fits .result) (passed _ _ (c .before .before .before .before .before .before .before .before .all-below .ensures) (c .before .before .before .before .before .before .before .if1 .left)) (passed _ _ (c .before .before .before .before .before .before .all-below2 .ensures) (c .before .before .before .before .before .if2 .left)) (passed _ _ (c .before .before .before .before .ascending .ensures) (c .before .before .before .if3 .left)) (passed _ _ (c .before .before .ascending2 .ensures) (c .before .if4 .left)) (c .count-fits .ensures)
 
 pub well-formed-spec : {M : Type 1} → statement M
 well-formed-spec =
@@ -64,7 +54,4 @@ well-formed-spec =
     ascending-requires-2
     returns-4
     count-fits-requires
-    returns-5
-    all-below-requires-3
-    returns-6
-    returns-7)
+    returns-5)

@@ -68,7 +68,7 @@ well-formed-requires c κs = search needs
 -- whether they are well formed, and the answer to them
 formed : (p : tie.After-well-formed) → let s = p .before .before .before .before .before .before .before .before .before .before .before .before .before .before .before in
     p .well-formed .result ≡ wellFormed (sheetOf (s .args .header) (s .args .arcs .now) (s .args .marks .now)) (slipFrom (s .args .form .first) (take (s .args .form .goals) (p .before .before .before .before .before .before .before .numbers-at .last .1 .1 .1 .0)) (take (s .args .form .reasons) (p .before .before .before .before .numbers-at2 .last .1 .1 .1 .0)))
-formed p = let s = p .before .before .before .before .before .before .before .before .before .before .before .before .before .before .before in p .well-formed .ensures (sheetOf (s .args .header) (s .args .arcs .now) (s .args .marks .now)) refl (items-are (s .pre .0 .0))
+formed p = let s = p .before .before .before .before .before .before .before .before .before .before .before .before .before .before .before in p .well-formed .ensures (sheetOf (s .args .header) (s .args .arcs .now) (s .args .marks .now)) (items-are (s .pre .0 .0))
 
 answered : {a : CheckAnswer} (p : tie.After-well-formed) → let s = p .before .before .before .before .before .before .before .before .before .before .before .before .before .before .before in
     a ≡ checkAnswerOf (judgedOn (sheetOf (s .args .header) (s .args .arcs .now) (s .args .marks .now)) (slipFrom (s .args .form .first) (take (s .args .form .goals) (p .before .before .before .before .before .before .before .numbers-at .last .1 .1 .1 .0)) (take (s .args .form .reasons) (p .before .before .before .before .numbers-at2 .last .1 .1 .1 .0))) [])

@@ -2,8 +2,9 @@
 use mathlib.Core.Path.{refl, sym, _∙_}
 use mathlib.Core.Bool.{true, false}
 use borrow.Author.Tests.{eq-eqb, ne-eqb, not-true, not-false}
+use Rattle.sheet.proofs.MarkLaws.{arc-free}
 use Rattle.sheet.specs.Sheet.{markOf, sheetOf}
-use Rattle.pass_marks.proofs.MarkingLaws.{mark-kept, mark-pruned, mark-open, arc-free}
+use Rattle.pass_marks.proofs.MarkingLaws.{mark-kept, mark-pruned, mark-open}
 use borrow.Author.Needs.{needs}
 use Rattle.pass_marks.proofs.new_mark.Statement.{statement}
 use Rattle.pass_marks.proofs.new_mark.Tie as tie

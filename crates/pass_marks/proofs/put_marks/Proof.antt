@@ -14,7 +14,7 @@ abbrev μ-loop : tie.MeasureT-loop
 μ-loop header arcs marks rows out₀ forced items i₀ out i = header .nodes + header .arcs - i
 
 forced-nodes-requires : tie.Need-forced-nodes-requires Inv-loop μ-loop
-forced-nodes-requires c κs = c .before .before .before .before .pre .0 .whole
+forced-nodes-requires c κs = let w = c .before .before .before .before .pre .0 .whole in (w .sized, w .proper .few)
 
 add-items : tie.Need-add-items Inv-loop μ-loop
 add-items c = let s = c .before .before .before .before .before .before in omega (arith, s .pre .0 .whole .proper .few, s .pre .0 .whole .few)

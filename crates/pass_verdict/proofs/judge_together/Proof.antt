@@ -1,4 +1,4 @@
--- `pass_verdict::judge_together` meets its contract: the required nodes stand in front of the goals, and the length layer says whether a walk meets them.
+-- `pass_verdict::judge_together` meets its contract: the required items stand in front of the goals, and the length layer says whether a walk meets them.
 -- Assumes nothing.
 use mathlib.Core.Path.{_≡_, sym, ap, _∙_}
 use native.Mathlib.Omega.{arith}
@@ -11,13 +11,13 @@ use Rattle.pass_verdict.proofs.JudgeLaws.{required-sought, nothing-requ
 use Rattle.pass_verdict.proofs.judge_together.Statement.{statement}
 use Rattle.pass_verdict.proofs.judge_together.Tie as tie
 
-required-nodes-requires : tie.Need-required-nodes-requires
-required-nodes-requires c κs = search needs
+required-items-requires : tie.Need-required-items-requires
+required-items-requires c κs = search needs
 
 -- the goals that were listed
-listed : (p : tie.After-required-nodes) → let s = p .before .before .before .before .before .before in
-    take (p .required-nodes .result) (p .required-nodes .last .1 .1 .1 .0) ≡ required (sheetOf (s .args .header) (s .args .arcs .now) (s .args .marks .now))
-listed p = let s = p .before .before .before .before .before .before in room-front (p .required-nodes .ensures) (omega (arith, s .pre .0 .1, s .pre .0 .0 .eight))
+listed : (p : tie.After-required-items) → let s = p .before .before .before .before .before .before in
+    take (p .required-items .result) (p .required-items .last .1 .1 .1 .0) ≡ required (sheetOf (s .args .header) (s .args .arcs .now) (s .args .marks .now))
+listed p = let s = p .before .before .before .before .before .before in room-front (p .required-items .ensures) (omega (arith, s .pre .0 .1, s .pre .0 .0 .eight))
 
 same-length : tie.Need-same-length
 same-length c = search needs
@@ -25,17 +25,17 @@ same-length c = search needs
 returns : tie.Need-returns
 returns c =
     let s = c .before .before .before .before .before .before .before .before .before in
-    let q = c .before .before .before .required-nodes in
+    let q = c .before .before .before .required-items in
     judged-zero (s .args .header) (s .args .arcs .now) (s .args .marks .now) _ _ (s .pre .1 .0) (s .pre .1 .1) (nothing-required _ (s .pre .1 .0) (sym (q .ensures .counted) ∙ c .if1 .taken))
 
 slice-reshare-prefix-fits-goals : tie.Need-slice-reshare-prefix-fits-goals
 slice-reshare-prefix-fits-goals c =
     let s = c .before .before .before .before .before .before .before .before .before in
-    let q = c .before .before .before .required-nodes in
+    let q = c .before .before .before .required-items in
     omega (arith, q .ensures .counted, s .pre .0 .1, s .pre .0 .0 .eight, q .kept .1 .1 .1 .0)
 
 slice-aggregate-fits-goals : tie.Need-slice-aggregate-fits-goals
-slice-aggregate-fits-goals c = c .before .before .before .before .required-nodes .ensures .counted ∙ sym (ap length (listed (c .before .before .before .before)))
+slice-aggregate-fits-goals c = c .before .before .before .before .required-items .ensures .counted ∙ sym (ap length (listed (c .before .before .before .before)))
 
 fits-goals-requires : tie.Need-fits-goals-requires
 fits-goals-requires c κs =
@@ -66,7 +66,7 @@ returns-3 : tie.Need-returns-3
 unfolding fitsSheet isForbidden
 returns-3 c =
     let s = c .before .before .before .before .before .before .before .before .before .before .before .before .before .before .before in
-    let q = c .before .before .before .before .before .before .before .before .before .required-nodes in
+    let q = c .before .before .before .before .before .before .before .before .before .required-items in
     let f = c .before .before .before .fits-goals in
     let e = listed (c .before .before .before .before .before .before .before .before .before) in
     judged-three (s .args .header) (s .args .arcs .now) (s .args .marks .now) _ _ (s .pre .1 .0) (s .pre .1 .1) (q .result)
@@ -76,7 +76,7 @@ pub judge-together-spec : {M : Type 1} → statement M
 judge-together-spec =
     tie.close
     (tie.spec
-    required-nodes-requires
+    required-items-requires
     same-length
     returns
     slice-reshare-prefix-fits-goals

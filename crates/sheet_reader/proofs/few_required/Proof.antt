@@ -1,4 +1,4 @@
--- `few_required` counts the required nodes of the sheet that stands in front of the arrays. Assumes nothing.
+-- `few_required` counts the required items of the sheet that stands in front of the arrays. Assumes nothing.
 use borrow.Author.Needs.{needs}
 use Prim.Native.Nat.{ℕ}
 use mathlib.Core.Path.{ap}
@@ -14,20 +14,20 @@ mul-numbers c = search needs
 add-items : tie.Need-add-items
 add-items c = search needs
 
-slice-aggregate-required-nodes : tie.Need-slice-aggregate-required-nodes
-slice-aggregate-required-nodes c = simp length-take (omega arith)
+slice-aggregate-required-items : tie.Need-slice-aggregate-required-items
+slice-aggregate-required-items c = simp length-take (omega arith)
 
-slice-aggregate-required-nodes-2 : tie.Need-slice-aggregate-required-nodes-2
-slice-aggregate-required-nodes-2 c = simp length-take (omega arith)
+slice-aggregate-required-items-2 : tie.Need-slice-aggregate-required-items-2
+slice-aggregate-required-items-2 c = simp length-take (omega arith)
 
-slice-aggregate-required-nodes-3 : tie.Need-slice-aggregate-required-nodes-3
-slice-aggregate-required-nodes-3 c = search needs
+slice-aggregate-required-items-3 : tie.Need-slice-aggregate-required-items-3
+slice-aggregate-required-items-3 c = search needs
 
-required-nodes-requires : tie.Need-required-nodes-requires
-required-nodes-requires c κs = simp length-take (omega arith)
+required-items-requires : tie.Need-required-items-requires
+required-items-requires c κs = simp length-take (omega arith)
 
 returns : tie.Need-returns
-returns c = ap (λ (k : ℕ). leb k 8) (c .before .required-nodes .ensures .counted)
+returns c = ap (λ (k : ℕ). leb k 8) (c .before .required-items .ensures .counted)
 
 pub few-required-spec : {M : Type 1} → statement M
 few-required-spec =
@@ -35,8 +35,8 @@ few-required-spec =
     (tie.spec
     mul-numbers
     add-items
-    slice-aggregate-required-nodes
-    slice-aggregate-required-nodes-2
-    slice-aggregate-required-nodes-3
-    required-nodes-requires
+    slice-aggregate-required-items
+    slice-aggregate-required-items-2
+    slice-aggregate-required-items-3
+    required-items-requires
     returns)

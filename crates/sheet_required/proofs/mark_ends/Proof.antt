@@ -5,21 +5,21 @@ use borrow.Author.Tests.{eq-eqb, ne-eqb}
 use Rattle.sheet_required.proofs.mark_ends.Statement.{statement}
 use Rattle.sheet_required.proofs.mark_ends.Tie as tie
 
-mark-end-requires : tie.Need-mark-end-requires
-mark-end-requires c κs = search needs
+mark-node-requires : tie.Need-mark-node-requires
+mark-node-requires c κs = search needs
 
-mark-end-requires-2 : tie.Need-mark-end-requires-2
-mark-end-requires-2 c κs = search needs
+mark-node-requires-2 : tie.Need-mark-node-requires-2
+mark-node-requires-2 c κs = search needs
 
 same-length : tie.Need-same-length
 same-length c = search needs
 
 returns : tie.Need-returns
-returns c = rw (eq-eqb _ _ (c .before .before .before .before .before .before .before .before .if1 .taken)) (c .before .before .mark-end2 .ensures ∙ rw (c .before .before .before .before .before .before .mark-end .ensures))
+returns c = rw (eq-eqb _ _ (c .before .before .before .before .before .before .before .before .if1 .taken)) (c .before .before .mark-node2 .ensures ∙ rw (c .before .before .before .before .before .before .mark-node .ensures))
 
 returns-2 : tie.Need-returns-2
 returns-2 c = rw (ne-eqb _ _ (c .if1 .left))
 
 pub mark-ends-spec : {M : Type 1} → statement M
 mark-ends-spec =
-    tie.close (tie.spec mark-end-requires mark-end-requires-2 same-length returns returns-2)
+    tie.close (tie.spec mark-node-requires mark-node-requires-2 same-length returns returns-2)

@@ -1,9 +1,9 @@
--- `note_node` stores one entry; past the end of a list `set` changes nothing. Assumes nothing.
+-- `note_item` stores one entry; past the end of a list `set` changes nothing. Assumes nothing.
 use mathlib.Core.Path.{sym}
 use lib.Seq.{set-out}
 use borrow.Author.Needs.{needs}
-use Rattle.sheet_required.proofs.note_node.Statement.{statement}
-use Rattle.sheet_required.proofs.note_node.Tie as tie
+use Rattle.sheet_required.proofs.note_item.Statement.{statement}
+use Rattle.sheet_required.proofs.note_item.Tie as tie
 
 mul-list : tie.Need-mul-list
 mul-list c = search needs
@@ -20,5 +20,5 @@ returns c = search needs
 returns-2 : tie.Need-returns-2
 returns-2 c = sym (set-out _ _ _ (c .if1 .left))
 
-pub note-node-spec : {M : Type 1} → statement M
-note-node-spec = tie.close (tie.spec mul-list slice-write-list same-length returns returns-2)
+pub note-item-spec : {M : Type 1} → statement M
+note-item-spec = tie.close (tie.spec mul-list slice-write-list same-length returns returns-2)
