@@ -1,8 +1,8 @@
 -- Laws of the forced nodes and the required items: the ends of mandatory arcs, marked from the last arc to the first, and the list of the items that
 -- pass the test.
 -- Assumes nothing.
-use Prim.Native.Nat.{ℕ, suc, _+_, _-_, _*_, _≤_, _<_}
-use mathlib.Core.Path.{_≡_, refl, ap, sym, _∙_}
+use Prim.Native.Nat.{ℕ, zero, suc, _+_, _-_, _*_, _≤_, _<_}
+use mathlib.Core.Path.{_≡_, refl, ap, sym, _∙_, subst}
 use mathlib.Core.List.{List, [], _∷_, _++_, append-assoc, append-nil}
 use mathlib.Core.Bool.{Bool, true, false, not, _&&_, _||_}
 use native.Mathlib.Omega.{arith}
@@ -11,15 +11,15 @@ use lib.Dec.{eqb, ltb}
 use lib.ListN.{length, getD, set, take, replicate, getD-replicate, length-append, length-set, length-take}
 use lib.Seq.{getD-set-same, getD-set-other, set-out, take-all, take-nil, take-append-le}
 use borrow.Author.Tests.{eqb-true, eqb-false, eq-eqb, ne-eqb, ltb-true, ltb-false, lt-ltb}
-use Rattle.lists.specs.Lists.{pick, front, add, keep, span}
+use Rattle.lists.specs.Lists.{front, add, keep, span}
 use Rattle.lists.proofs.FrontLaws.{length-front, push}
 use Rattle.walks.specs.Graph.{Arc, noArc, tailOf, headOf, arcItem}
-use Rattle.walks.specs.Flat.{arcsOf, graphOf}
+use Rattle.walks.specs.Flat.{arcsOf}
 use Rattle.walks.proofs.FlatLaws.{arc-at, arcs-many}
 use Rattle.sheet.specs.declared.Header.{Header}
 use Rattle.sheet.proofs.MarkLaws.{arc-free}
 use Rattle.sheet.specs.Sheet.{Sheet, markOf, isMandatory, isForced, endsMandatory, allArcs, isRequired, sheetOf, Sized}
-use Rattle.sheet_required.specs.Whole.{Ends, ForcedNodes, RoomListed}
+use Rattle.sheet_required.specs.Whole.{ForcedNodes, FirstArc, RoomListed}
 
 -- a mark of 1 that is set at i, seen from p
 set-one : (xs : List ℕ) (i p : ℕ) → p < length xs → eqb (getD (set xs i 1) p 0) 1 ≡ (eqb i p || eqb (getD xs p 0) 1)
@@ -42,106 +42,135 @@ either-end true false d = refl
 either-end false true d = refl
 either-end false false d = refl
 
-module _ (h : Header) (xs ms : List ℕ) where
-  -- the arcs from j on were looked at
-  pub record Ending (j : ℕ) (ends : List ℕ) : Type 0 where
-    pub few : j ≤ h .arcs
-    pub size : length ends ≡ 64
-    pub each : (p : ℕ) → p < 64 → eqb (getD ends p 0) 1 ≡ endsMandatory (sheetOf h xs ms) p (span (h .arcs - j) j)
+or-assoc : (a b c : Bool) → (a || (b || c)) ≡ ((a || b) || c)
+or-assoc true b c = refl
+or-assoc false b c = refl
 
-  pub no-ends : Ending (h .arcs) (replicate 64 0)
+module _ (h : Header) (xs ms : List ℕ) where
+  abbrev S : Sheet
+  S = sheetOf h xs ms
+
+  -- the arcs from j on were looked at
+  pub record Ending (j : ℕ) (forced : List ℕ) (first : ℕ) : Type 0 where
+    pub few : j ≤ h .arcs
+    pub size : length forced ≡ 64
+    pub each : (p : ℕ) → p < 64 → eqb (getD forced p 0) 1 ≡ (endsMandatory S p (span (h .arcs - j) j) || (eqb (h .target) p || eqb (h .source) p))
+    pub low : j ≤ first
+    pub high : first ≤ h .arcs
+    pub none : (i : ℕ) → j ≤ i → i < first → isMandatory S (arcItem (S .graph) i) ≡ false
+    pub there : first < h .arcs → isMandatory S (arcItem (S .graph) first) ≡ true
+
+  pub no-ends : Ending (h .arcs) (set (set (replicate 64 0) (h .source) 1) (h .target) 1) (h .arcs)
   unfolding endsMandatory span
   no-ends =
       record {
         few = omega arith;
-        size = refl;
-        each = λ p l. let e : h .arcs - h .arcs ≡ 0 = omega arith in rw (getD-replicate {A = ℕ} 64 p 0 0 l, e);
+        size = simp length-set;
+        each = λ p l. let e : h .arcs - h .arcs ≡ 0 = omega arith in rw e (marked p l);
+        low = omega arith;
+        high = omega arith;
+        none = λ i l g. absurd (omega arith);
+        there = λ l. absurd (omega arith);
       }
+    where
+      none-or : (a : Bool) → (a || false) ≡ a
+      none-or true = refl
+      none-or false = refl
 
-  -- what the arc i adds
-  abbrev with-arc : ℕ → List ℕ → List ℕ
-  with-arc i ends = pick (eqb (getD ms (h .nodes + i) 0) 1) (set (set ends (getD xs (i * 3) 0) 1) (getD xs (i * 3 + 1) 0) 1) ends
+      marked : (p : ℕ) → p < 64 → eqb (getD (set (set (replicate 64 0) (h .source) 1) (h .target) 1) p 0) 1 ≡ (eqb (h .target) p || eqb (h .source) p)
+      marked p l =
+          set-one (set (replicate 64 0) (h .source) 1) (h .target) p (rw length-set l)
+          ∙ ap (λ (b : Bool). eqb (h .target) p || b) (set-one (replicate 64 0) (h .source) p l ∙ rw (getD-replicate {A = ℕ} 64 p 0 0 l) (none-or (eqb (h .source) p)))
 
-  module _ (sized : Sized h xs ms) where
-    arc-adds :
-        (i : ℕ) (ends : List ℕ) (p : ℕ) (d : Bool) → i < h .arcs → p < length ends → eqb (getD ends p 0) 1 ≡ d
-        → eqb (getD (with-arc i ends) p 0) 1
-        ≡ ((isMandatory (sheetOf h xs ms) (arcItem (graphOf (h .nodes) xs) i)
-        && (eqb (tailOf (graphOf (h .nodes) xs) i) p || eqb (headOf (graphOf (h .nodes) xs) i) p)) || d)
-    unfolding isMandatory markOf arcItem tailOf headOf
-    arc-adds i ends p d l below e =
-        let q = arc-at xs i (omega (arith, sized .0)) in
-        let t : getD (arcsOf xs) i noArc .tail ≡ getD xs (i * 3) 0 = ap (λ (x : Arc). x .tail) q in
-        let u : getD (arcsOf xs) i noArc .head ≡ getD xs (i * 3 + 1) 0 = ap (λ (x : Arc). x .head) q in
-        rw (t, u) (go (eqb (getD ms (h .nodes + i) 0) 1))
-      where
-        go :
-            (t : Bool)
-            → eqb (getD (pick t (set (set ends (getD xs (i * 3) 0) 1) (getD xs (i * 3 + 1) 0) 1) ends) p 0) 1
-            ≡ ((t && (eqb (getD xs (i * 3) 0) p || eqb (getD xs (i * 3 + 1) 0) p)) || d)
-        go true =
-            set-one (set ends (getD xs (i * 3) 0) 1) (getD xs (i * 3 + 1) 0) p (rw length-set below)
-            ∙ ap (λ (b : Bool). eqb (getD xs (i * 3 + 1) 0) p || b) (set-one ends (getD xs (i * 3) 0) p below ∙ ap (λ (b : Bool). eqb (getD xs (i * 3) 0) p || b) e)
-            ∙ either-end (eqb (getD xs (i * 3) 0) p) (eqb (getD xs (i * 3 + 1) 0) p) d
-        go false = e
+  module _ (sized : Sized h xs ms) {j : ℕ} {forced : List ℕ} {first : ℕ} (w : Ending j forced first) (l : 0 < j) where
+    spanned : span (h .arcs - (j - 1)) (j - 1) ≡ (j - 1) ∷ span (h .arcs - j) j
+    unfolding span
+    spanned =
+        let e : h .arcs - (j - 1) ≡ suc (h .arcs - j) = omega (arith, w .few) in
+        let q : suc (j - 1) ≡ j = omega arith in
+        rw (e, span, q)
 
-    with-size : (i : ℕ) (ends : List ℕ) → length (with-arc i ends) ≡ length ends
-    with-size i ends = go (eqb (getD ms (h .nodes + i) 0) 1)
-      where
-        go : (t : Bool) → length (pick t (set (set ends (getD xs (i * 3) 0) 1) (getD xs (i * 3 + 1) 0) 1) ends) ≡ length ends
-        go true = simp length-set
-        go false = refl
-
-    next-end : (i : ℕ) {ends : List ℕ} → Ending (suc i) ends → Ending i (with-arc i ends)
-    unfolding endsMandatory span
-    next-end i {ends} w =
-        let e : h .arcs - i ≡ suc (h .arcs - suc i) = omega (arith, w .few) in
+    pub end-more : isMandatory S (arcItem (S .graph) (j - 1)) ≡ true → Ending (j - 1) (set (set forced (getD xs ((j - 1) * 3) 0) 1) (getD xs ((j - 1) * 3 + 1) 0) 1) (j - 1)
+    unfolding endsMandatory tailOf headOf
+    end-more m =
         record {
           few = omega (arith, w .few);
-          size = with-size i ends ∙ w .size;
-          each = λ p l. rw e (arc-adds i ends p _ (omega (arith, w .few)) (omega (arith, w .size)) (w .each p l));
+          size = simp length-set (w .size);
+          each = λ p b. rw (spanned, m, tail, head) (adds p b);
+          low = omega arith;
+          high = omega (arith, w .few);
+          none = λ i g k. absurd (omega arith);
+          there = λ _. m;
         }
+      where
+        tail : getD (arcsOf xs) (j - 1) noArc .tail ≡ getD xs ((j - 1) * 3) 0
+        tail = ap (λ (x : Arc). x .tail) (arc-at xs (j - 1) (omega (arith, sized .0, w .few)))
 
-    pub more-ends : {j : ℕ} {ends : List ℕ} → Ending j ends → 0 < j → Ending (j - 1) (with-arc (j - 1) ends)
-    more-ends {j} {ends} w l =
-        let e : suc (j - 1) ≡ j = omega arith in
-        next-end (j - 1) {ends = ends} (rw e w)
+        head : getD (arcsOf xs) (j - 1) noArc .head ≡ getD xs ((j - 1) * 3 + 1) 0
+        head = ap (λ (x : Arc). x .head) (arc-at xs (j - 1) (omega (arith, sized .0, w .few)))
 
-    pub all-ends : {j : ℕ} {ends : List ℕ} → Ending j ends → j ≤ 0 → Ends (sheetOf h xs ms) ends
-    unfolding allArcs
-    all-ends {j} w l =
-        let z : j ≡ 0 = omega arith in
-        let e : h .arcs - 0 ≡ h .arcs = omega arith in
-        record { size = w .size; each = λ p q. w .each p q ∙ rw (z, e, arcs-many xs (h .arcs) (sized .0)) }
+        adds :
+            (p : ℕ) → p < 64
+            → eqb (getD (set (set forced (getD xs ((j - 1) * 3) 0) 1) (getD xs ((j - 1) * 3 + 1) 0) 1) p 0) 1
+            ≡ (((eqb (getD xs ((j - 1) * 3) 0) p || eqb (getD xs ((j - 1) * 3 + 1) 0) p) || endsMandatory S p (span (h .arcs - j) j)) || (eqb (h .target) p || eqb (h .source) p))
+        adds p b =
+            set-one (set forced (getD xs ((j - 1) * 3) 0) 1) (getD xs ((j - 1) * 3 + 1) 0) p (rw length-set (omega (arith, w .size)))
+            ∙ ap (λ (t : Bool). eqb (getD xs ((j - 1) * 3 + 1) 0) p || t)
+            (set-one forced (getD xs ((j - 1) * 3) 0) p (omega (arith, w .size)) ∙ ap (λ (t : Bool). eqb (getD xs ((j - 1) * 3) 0) p || t) (w .each p b))
+            ∙ either-end (eqb (getD xs ((j - 1) * 3) 0) p) (eqb (getD xs ((j - 1) * 3 + 1) 0) p) (endsMandatory S p (span (h .arcs - j) j) || (eqb (h .target) p || eqb (h .source) p))
+            ∙ or-assoc (eqb (getD xs ((j - 1) * 3) 0) p || eqb (getD xs ((j - 1) * 3 + 1) 0) p) (endsMandatory S p (span (h .arcs - j) j)) (eqb (h .target) p || eqb (h .source) p)
 
--- source and target are put in
-pub forced-are : (S : Sheet) {ends : List ℕ} → Ends S ends → S .graph .nodes ≤ 64 → ForcedNodes S (set (set ends (S .source) 1) (S .target) 1)
-unfolding isForced
-forced-are S {ends} E few = record {
-  size = simp length-set (E .size);
-  each = λ p h. rw (lt-ltb p (S .graph .nodes) h) (put p (omega arith) ∙ rw (eqb-sym (S .source) p, eqb-sym (S .target) p) (other-end (eqb p (S .target)) (eqb p (S .source)) _));
-}
-  where
-    put : (p : ℕ) → p < 64 → eqb (getD (set (set ends (S .source) 1) (S .target) 1) p 0) 1 ≡ (eqb (S .target) p || (eqb (S .source) p || endsMandatory S p (allArcs (S .graph))))
-    put p h =
-        set-one (set ends (S .source) 1) (S .target) p (rw length-set (omega (arith, E .size)))
-        ∙ ap (λ (b : Bool). eqb (S .target) p || b) (set-one ends (S .source) p (omega (arith, E .size)) ∙ ap (λ (b : Bool). eqb (S .source) p || b) (E .each p h))
+    pub end-pass : isMandatory S (arcItem (S .graph) (j - 1)) ≡ false → Ending (j - 1) forced first
+    unfolding endsMandatory
+    end-pass m =
+        record {
+          few = omega (arith, w .few);
+          size = w .size;
+          each = λ p b. rw (spanned, m) (w .each p b);
+          low = omega (arith, w .low);
+          high = w .high;
+          none = λ i g k. earlier i g k (eqb i (j - 1)) refl;
+          there = w .there;
+        }
+      where
+        earlier : (i : ℕ) → j - 1 ≤ i → i < first → (t : Bool) → eqb i (j - 1) ≡ t → isMandatory S (arcItem (S .graph) i) ≡ false
+        earlier i g k true e = rw (eqb-true i (j - 1) e) m
+        earlier i g k false e = let n = eqb-false i (j - 1) e in w .none i (omega arith) k
 
-    other-end : (a b d : Bool) → (a || (b || d)) ≡ (b || (a || d))
-    other-end true true d = refl
-    other-end true false d = refl
-    other-end false true d = refl
-    other-end false false d = refl
+  pub all-ends : Sized h xs ms → h .nodes ≤ 64 → {j : ℕ} {forced : List ℕ} {first : ℕ} → Ending j forced first → j ≤ 0
+      → ForcedNodes S forced × FirstArc S first
+  unfolding allArcs isForced
+  all-ends sized few {j} {forced} w l = (
+    record { size = w .size; each = λ p q. rw (lt-ltb p (h .nodes) q) (w .each p (omega arith) ∙ rw (ends, eqb-sym (h .target) p, eqb-sym (h .source) p) (turned _ (eqb p (h .target)) (eqb p (h .source)))) },
+    record { few = rw (arcs-many xs (h .arcs) (sized .0)) (w .high); none = λ i k. w .none i (omega arith) k; there = λ k. w .there (rw (← (arcs-many xs (h .arcs) (sized .0))) k) },
+  )
+    where
+      ends : span (h .arcs - j) j ≡ allArcs (S .graph)
+      ends = let z : j ≡ 0 = omega arith in let e : h .arcs - 0 ≡ h .arcs = omega arith in rw (z, e, arcs-many xs (h .arcs) (sized .0))
 
--- the test of an item, by its mark and the forced nodes
-pub required-by : (S : Sheet) {forced : List ℕ} → ForcedNodes S forced → (i : ℕ)
-    → (eqb (getD (S .marks) i 0) 1 && not (ltb i (S .graph .nodes) && eqb (getD forced i 0) 1)) ≡ isRequired S i
+      turned : (a b c : Bool) → (a || (b || c)) ≡ (c || (b || a))
+      turned true true true = refl
+      turned true true false = refl
+      turned true false true = refl
+      turned true false false = refl
+      turned false true true = refl
+      turned false true false = refl
+      turned false false true = refl
+      turned false false false = refl
+
+-- a node is required where it is mandatory and not forced, an arc where it is mandatory
+pub required-node : (S : Sheet) {forced : List ℕ} → ForcedNodes S forced → (i : ℕ) → i < S .graph .nodes
+    → (eqb (getD (S .marks) i 0) 1 && not (eqb (getD forced i 0) 1)) ≡ isRequired S i
 unfolding isRequired isMandatory markOf
-required-by S {forced} w i = ap (λ (b : Bool). eqb (getD (S .marks) i 0) 1 && not b) (go (ltb i (S .graph .nodes)) refl)
+required-node S w i h = ap (λ (b : Bool). eqb (getD (S .marks) i 0) 1 && not b) (w .each i h)
+
+pub required-arc : (S : Sheet) (i : ℕ) → S .graph .nodes ≤ i → eqb (getD (S .marks) i 0) 1 ≡ isRequired S i
+unfolding isRequired isMandatory markOf
+required-arc S i h = rw (arc-free S i h) (sym (and-one (eqb (getD (S .marks) i 0) 1)))
   where
-    go : (t : Bool) → ltb i (S .graph .nodes) ≡ t → (t && eqb (getD forced i 0) 1) ≡ isForced S i
-    go true e = w .each i (ltb-true i (S .graph .nodes) e)
-    go false e = sym (arc-free S i (ltb-false i (S .graph .nodes) e))
+    and-one : (a : Bool) → (a && true) ≡ a
+    and-one true = refl
+    and-one false = refl
 
 -- the numbers below p that pass the test were written over the front of `old`, as far as it has room
 pub record Listing (f : ℕ → Bool) (n : ℕ) (old out : List ℕ) (count p : ℕ) : Type 0 where
@@ -212,3 +241,22 @@ module _ {f : ℕ → Bool} {n : ℕ} {old out : List ℕ} {count p : ℕ} (w : 
       let k : n - p ≡ 0 = omega arith in
       let e : keep f (span n 0) ≡ w .xs = w .same ∙ rw k (append-nil (w .xs)) in
       rw e (record { counted = sym (w .size); written = w .holds })
+
+-- numbers that do not pass are left out at once
+pub list-skip : {f : ℕ → Bool} {n : ℕ} {old out : List ℕ} {count p : ℕ} (d : ℕ) → Listing f n old out count p → p + d ≤ n
+    → ((j : ℕ) → p ≤ j → j < p + d → f j ≡ false) → Listing f n old out count (p + d)
+list-skip {p = p} zero w l g = let e : p + 0 ≡ p = omega arith in rw e w
+list-skip {p = p} (suc d) w l g =
+    let e : p + suc d ≡ p + d + 1 = omega arith in
+    rw e (list-pass (list-skip d w (omega arith) (λ j a b. g j a (omega arith))) (omega arith) (g (p + d) (omega arith) (omega arith)))
+
+-- behind the nodes the list goes on at the first mandatory arc
+pub arcs-begun : (S : Sheet) {n : ℕ} {old out : List ℕ} {count i first : ℕ} → FirstArc S first → n ≡ S .graph .nodes + length (S .graph .arcs)
+    → Listing (isRequired S) n old out count i → i ≡ S .graph .nodes → Listing (isRequired S) n old out count (S .graph .nodes + first)
+unfolding isRequired arcItem
+arcs-begun S {n} {old} {out} {count} {i} {first} F e w q =
+    list-skip first (subst (λ (k : ℕ). Listing (isRequired S) n old out count k) q w) (omega (arith, F .few))
+    (λ j a b.
+    let z : S .graph .nodes + (j - S .graph .nodes) ≡ j = omega arith in
+    let m : isMandatory S j ≡ false = rw (← z) (F .none (j - S .graph .nodes) (omega arith)) in
+    rw m)

@@ -1,12 +1,14 @@
 -- A sheet as the code has it.
 use Prim.Native.Nat.{ℕ, _≤_, _<_}
 use mathlib.Core.Path.{_≡_}
+use mathlib.Core.Bool.{true, false}
 use mathlib.Core.List.{List}
 use lib.ListN.{length, getD, take}
 use lib.Dec.{eqb}
 use Rattle.lists.specs.Lists.{front}
-use Rattle.sheet.specs.Sheet.{Sheet, sheetOf, Sized, required, isForced, endsMandatory, allArcs}
+use Rattle.sheet.specs.Sheet.{Sheet, sheetOf, Sized, isMandatory, isForced, required}
 use Rattle.sheet.specs.Good.{Good}
+use Rattle.walks.specs.Graph.{arcItem}
 use Rattle.rows.specs.Net.{netOf, Proper}
 use Rattle.sheet.specs.declared.Header.{Header}
 
@@ -21,15 +23,16 @@ pub record Whole (h : Header) (arcs marks : List ℕ) : Type 0 where
   pub good : Good (sheetOf h arcs marks)
   pub eight : length (required (sheetOf h arcs marks)) ≤ 8
 
--- a 1 for each of the first 64 nodes that ends a mandatory arc
-pub record Ends (S : Sheet) (ends : List ℕ) : Type 0 where
-  pub size : length ends ≡ 64
-  pub each : (p : ℕ) → p < 64 → eqb (getD ends p 0) 1 ≡ endsMandatory S p (allArcs (S .graph))
-
 -- a 1 for each node that is source, target or an end of a mandatory arc
 pub record ForcedNodes (S : Sheet) (forced : List ℕ) : Type 0 where
   pub size : length forced ≡ 64
   pub each : (p : ℕ) → p < S .graph .nodes → eqb (getD forced p 0) 1 ≡ isForced S p
+
+-- the first mandatory arc, or how many arcs there are where none is mandatory
+pub record FirstArc (S : Sheet) (first : ℕ) : Type 0 where
+  pub few : first ≤ length (S .graph .arcs)
+  pub none : (j : ℕ) → j < first → isMandatory S (arcItem (S .graph) j) ≡ false
+  pub there : first < length (S .graph .arcs) → isMandatory S (arcItem (S .graph) first) ≡ true
 
 -- so many entries there are, and as many of them as the list has room for stand in front of it
 pub record RoomListed (xs old list : List ℕ) (n : ℕ) : Type 0 where

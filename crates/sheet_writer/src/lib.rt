@@ -101,7 +101,7 @@ fn marks_fault(marks: &[u8]) -> u32
 
 // 13 where more than eight items are required, else 0.
 fn required_fault(header: Header, arcs: &[u32], marks: &[u8]) -> u32
-    requires { ⌜ Sized header (now arcs) (now marks) × (header .nodes ≤ 64) ⌝ }
+    requires { ⌜ Sized header (now arcs) (now marks) × (header .nodes ≤ 64) × (header .arcs ≤ 512) ⌝ }
     ensures { λ r. ⌜ r ≡ requiredFault (draftOf header (now (arcs .entry)) (now (marks .entry))) ⌝ }
 {
     let mut list = [0usize; GOALS];

@@ -1,7 +1,6 @@
--- `mark_ends` sets the marks of both ends of a mandatory arc. Assumes nothing.
+-- `mark_ends` sets the marks of both ends of an arc. Assumes nothing.
 use borrow.Author.Needs.{needs}
 use mathlib.Core.Path.{_∙_}
-use borrow.Author.Tests.{eq-eqb, ne-eqb}
 use Rattle.sheet_required.proofs.mark_ends.Statement.{statement}
 use Rattle.sheet_required.proofs.mark_ends.Tie as tie
 
@@ -15,11 +14,7 @@ same-length : tie.Need-same-length
 same-length c = search needs
 
 returns : tie.Need-returns
-returns c = rw (eq-eqb _ _ (c .before .before .before .before .before .before .before .before .if1 .taken)) (c .before .before .mark-node2 .ensures ∙ rw (c .before .before .before .before .before .before .mark-node .ensures))
-
-returns-2 : tie.Need-returns-2
-returns-2 c = rw (ne-eqb _ _ (c .if1 .left))
+returns c = c .before .before .mark-node2 .ensures ∙ rw (c .before .before .before .before .before .before .mark-node .ensures)
 
 pub mark-ends-spec : {M : Type 1} → statement M
-mark-ends-spec =
-    tie.close (tie.spec mark-node-requires mark-node-requires-2 same-length returns returns-2)
+mark-ends-spec = tie.close (tie.spec mark-node-requires mark-node-requires-2 same-length returns)

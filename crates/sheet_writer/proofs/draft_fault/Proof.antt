@@ -57,7 +57,7 @@ returns-5 c =
     in-marks _ _ _ (header-fine (p .before .before .before .before)) (p .before .before .if2 .left) (p .if3 .left) (arcs-fine (c .before .before)) (c .before .marks-fault .ensures) (c .if5 .taken)
 
 required-fault-requires : tie.Need-required-fault-requires
-required-fault-requires c κs = let p = c .before .before .before .before .before in ((p .before .before .if2 .left, p .if3 .left), bounded (p .before .before .before .before) .nodes)
+required-fault-requires c κs = let p = c .before .before .before .before .before in let h = bounded (p .before .before .before .before) in ((p .before .before .if2 .left, p .if3 .left), h .nodes, h .arcs)
 
 returns-6 : tie.Need-returns-6
 returns-6 c =
