@@ -3,7 +3,7 @@
 //!     cargo run --release -p bench
 //!
 //! With `WAYS_BEFORE` set to the path of an earlier `libplanner.a`, that one takes its turns too, both loaded alike, and the last column is the present
-//! library's time in terms of the earlier one's. It has none where the earlier one cannot make the call or answers otherwise.
+//! library's time in terms of the earlier one's. Where that one cannot make the call, or answers otherwise, a row ends before its columns.
 
 mod loaded;
 mod sheets;

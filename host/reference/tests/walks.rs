@@ -2,7 +2,7 @@
 
 mod by_definition;
 
-use by_definition::Trial;
+use by_definition::{forbidden, required_items, Trial};
 use cases::{Random, Sheet, FORBIDDEN, MANDATORY};
 use std::collections::HashMap;
 
@@ -13,7 +13,7 @@ struct Search<'a> {
     sheet: &'a Sheet,
     closed: &'a [bool],
     goals: &'a [usize],
-    /// the minutes that were left at a node with these goals met; with no more of them, nothing that was not tried follows
+    /// the most minutes that a walk had left at a node with these goals met: with no more of them, all that can follow was tried
     tried: HashMap<(usize, u32), u32>,
 }
 
@@ -98,6 +98,18 @@ fn try_check(trial: &mut Trial, sheet: &Sheet, random: &mut Random) -> bool {
     };
     let is_empty_third = first == 3 && goals.is_empty();
     !is_empty_third && trial.check(sheet, first, &goals, &listed)
+}
+
+/// To meet the required items is to meet all mandatory ones.
+#[test]
+fn required_for_all_mandatory() {
+    let mut random = Random::new(2);
+    for _ in 0..SHEETS {
+        let sheet = draw(&mut random);
+        let closed = forbidden(&sheet);
+        let mandatory: Vec<usize> = (0..sheet.marks.len()).filter(|&item| sheet.marks[item] == MANDATORY).collect();
+        assert_eq!(fits(&sheet, &closed, &required_items(&sheet)), fits(&sheet, &closed, &mandatory), "{sheet:?}");
+    }
 }
 
 #[test]

@@ -30,7 +30,7 @@ fn sheets_written_again() {
         }
     }
     println!("{written} sheets written again");
-    assert!(written > 7_000);
+    assert!(written > 8_000);
     for line in starred().into_iter().chain(driven()) {
         try_rooms(&mut desk, &Draft::of(&line.sheet), &line.sheet.bytes());
     }

@@ -9,7 +9,7 @@ const MOST_REQUIRED: usize = 8;
 /// Some walk of the sheet from source to target, clear of the closed items, meets the goals within the limit.
 pub type Fits = fn(sheet: &Sheet, closed: &[bool], goals: &[usize]) -> bool;
 
-fn forbidden(sheet: &Sheet) -> Vec<bool> {
+pub fn forbidden(sheet: &Sheet) -> Vec<bool> {
     sheet.marks.iter().map(|&mark| mark == FORBIDDEN).collect()
 }
 
@@ -24,7 +24,7 @@ fn is_required(sheet: &Sheet, item: usize) -> bool {
     sheet.marks[item] == MANDATORY && (is_arc || !is_end_of_walk && !is_end_of_mandatory(sheet, item))
 }
 
-fn required_items(sheet: &Sheet) -> Vec<usize> {
+pub fn required_items(sheet: &Sheet) -> Vec<usize> {
     (0..sheet.marks.len()).filter(|&item| is_required(sheet, item)).collect()
 }
 
