@@ -1,6 +1,7 @@
 /* A small planner: it has the sheet B written, asks for the pass, for the reason of each struck
  * item and for a check of each slip, and says in words what came back. Then it shuts a place and a
- * leg, so that the round is refused, and last hands over a sheet that is cut short.
+ * leg, so that the round is refused; then it has a leg that must be driven, for which the round has
+ * no time; and last it hands over a sheet that is cut short.
  *
  *     cc host/planner.c target/staticlib/libplanner.a -o target/planner && target/planner
  */
@@ -108,12 +109,16 @@ static void judge(size_t sheet_length, const uint8_t marks[ITEMS]) {
 int main(void) {
     const uint8_t all_open[ITEMS] = { WAYS_MARK_OPEN };
     const uint8_t closed[ITEMS] = { [1] = WAYS_MARK_SHUT, [5] = WAYS_MARK_SHUT };
+    const uint8_t driven[ITEMS] = { [1] = WAYS_MARK_MUST, [6] = WAYS_MARK_MUST };
 
     printf("B, within 8 minutes\n");
     judge(draw_up(8, all_open), all_open);
 
     printf("\nB with place 1 and the leg from 1 to 3 shut\n");
     judge(draw_up(8, closed), closed);
+
+    printf("\nB within 14 minutes, with place 1 and the leg from 0 to 2 must\n");
+    judge(draw_up(14, driven), driven);
 
     printf("\nB without its last mark\n");
     judge(draw_up(8, all_open) - 1, all_open);

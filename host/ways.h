@@ -4,8 +4,9 @@
  * and a mark for each item: open, must or shut. Items are numbered once: the n places 0 to n - 1,
  * then the m legs n to n + m - 1. A walk is a chain of legs from start to finish; it may pass a
  * place twice. It is clear of an item that it neither uses nor touches, and meets one that it uses
- * or touches. Counted stops are the places, other than start and finish, that are must or end a
- * must leg.
+ * or touches; to touch both ends of a leg is not to use it. Counted items are the must legs, and
+ * the must places that are neither start, finish nor an end of a must leg. A walk that meets them
+ * all meets all must items.
  *
  * Numbers in a sheet or a slip are written in groups of seven bits, lowest group first, the high
  * bit of a byte set when another group follows: one to four groups, shortest form only.
@@ -46,8 +47,8 @@ extern "C" {
 #endif
 
 /* The version of this header and of the answers it describes: 100 times the first number plus the
- * second, so 102 is 1.2. CHANGELOG.md says what each version changed. */
-#define WAYS_VERSION 102
+ * second, so 200 is 2.0. CHANGELOG.md says what each version changed. */
+#define WAYS_VERSION 200
 
 #define WAYS_WORK_BYTES 65536u /* what the work must have */
 #define WAYS_SLIP_BYTES 1200u  /* what the slip of ways_pass and ways_reason must have */
@@ -75,7 +76,8 @@ enum ways_verdict {
     WAYS_VERDICT_NO_WALK = 1,
     /* The goal is a must item that no such walk meets, the lowest. */
     WAYS_VERDICT_ITEM_UNMET = 2,
-    /* The goals are the counted stops: no such walk meets them all. */
+    /* The goals are the counted items, legs as well as the stops of the name: no such walk meets
+     * them all. */
     WAYS_VERDICT_STOPS_UNMET = 3,
     /* Not a verdict on the round: the goal is an item that the pass strikes off. */
     WAYS_VERDICT_ITEM_STRUCK = 4
@@ -106,16 +108,16 @@ enum ways_refusal {
     WAYS_REFUSED_MINUTES = 10,     /* a leg's minutes are over 65,535 */
     WAYS_REFUSED_MARK = 11,        /* a mark is over 2 */
     WAYS_REFUSED_BYTES_LEFT = 12,  /* bytes remain behind the last mark */
-    WAYS_REFUSED_STOPS = 13,       /* there are over eight counted stops */
+    WAYS_REFUSED_STOPS = 13,       /* there are over eight counted items, legs as well as stops */
     WAYS_REFUSED_LENGTH = 14,      /* the shortest walk clear of shut items that meets all counted
-                                    * stops is longer than 4,294,967,295; no sheet draws it */
+                                    * items is longer than 4,294,967,295; no sheet draws it */
     WAYS_REFUSED_NO_ITEM = 15,     /* reason: there is no such item */
     WAYS_REFUSED_NOT_STRUCK = 16,  /* reason: the pass on this sheet does not strike the item */
     WAYS_REFUSED_SLIP_FORM = 17,   /* check: the slip ends early, has a badly written number, a
                                     * first number not 1 to 4, or bytes left over */
     WAYS_REFUSED_SLIP_LISTS = 18,  /* check: an unknown item; goals or reasons not strictly
-                                    * ascending; a goal count not 0, 1, 1 to 8, 1 for first numbers
-                                    * 1, 2, 3, 4; or a leg among the goals of a 3 */
+                                    * ascending; or a goal count not 0, 1, 1 to 8, 1 for first
+                                    * numbers 1, 2, 3, 4 */
     WAYS_REFUSED_SHEET_SHORT = 19  /* write: the slice is shorter than the sheet */
 };
 
@@ -162,10 +164,11 @@ uint32_t ways_reason(const uint8_t *sheet, size_t sheet_len, uint8_t *work, size
 /* Judges a slip with first number 1 to 4, whoever wrote it, against a sheet.
  *
  * Yes exactly when every reason is shut on the sheet; the goals are must (first number 2), counted
- * stops (3), open (4); and no walk clear of the reasons, all else open, meets the goals within the
- * sheet's limit. It does not ask what the sheet's verdict is, nor whether a reason could be left
- * out. It says yes to each slip that ways_pass (verdict 1 to 3) and ways_reason write for the
- * sheet.
+ * items (3), open (4); and no walk clear of the reasons, all else open, meets the goals within the
+ * sheet's limit. So it says no to a 3 that names a must place which is start, finish or an end of a
+ * must leg, or any item that is not must. It does not ask what the sheet's verdict is, nor whether
+ * the goals of a 3 are all the counted items, nor whether a reason could be left out. It says yes
+ * to each slip that ways_pass (verdict 1 to 3) and ways_reason write for the sheet.
  *
  * Returns 65,536 times the refusal (1, 3 to 14, 17, 18), or WAYS_YES or WAYS_NO.
  *
@@ -184,7 +187,7 @@ uint32_t ways_check(const uint8_t *sheet, size_t sheet_len, uint8_t *work, size_
  * The numbers are judged as a sheet's are, in the sheet's order: n (5), m (6), start and finish
  * (7), limit (8); then that the lists have the lengths that n and m say (3); then leg by leg the
  * tail and head (9) and the minutes (10), so that the minutes of one leg are judged before the tail
- * of the next; then the marks (11), the counted stops (13), and last the room (19). Any numbers may
+ * of the next; then the marks (11), the counted items (13), and last the room (19). Any numbers may
  * be handed over: one too great for a sheet draws its own 5 to 10. No other refusal is drawn.
  *
  * Returns 65,536 times the refusal, or the sheet's length, at least 7 and at most WAYS_SHEET_BYTES.

@@ -3,7 +3,7 @@
 //!     cargo run --release -p bench
 //!
 //! With `WAYS_BEFORE` set to the path of an earlier `libplanner.a`, that one takes its turns too, both loaded alike, and the last column is the present
-//! library's time in terms of the earlier one's.
+//! library's time in terms of the earlier one's. Where that one cannot make the call, or answers otherwise, a row ends before its columns.
 
 mod loaded;
 mod sheets;
@@ -81,23 +81,24 @@ fn median(mut samples: Vec<f64>) -> f64 {
     samples[samples.len() / 2]
 }
 
-/// All give the same number, slip and sheet; a time for anything else would be worth nothing.
-fn compare(all: &[Timed], standard: &Standard, lent: &mut Lent) {
-    let answers: Vec<(u32, Vec<u8>, Vec<u8>)> = all
-        .iter()
-        .map(|timed| {
-            lent.slip.fill(0);
-            lent.written.fill(0);
-            (timed.run(standard, lent), lent.slip.clone(), lent.written.clone())
-        })
-        .collect();
-    assert!(answers.iter().all(|answer| *answer == answers[0]), "{}", standard.name);
-    assert_eq!(answers[0].0 / 65_536, standard.refusal, "{}", standard.name);
+/// The number, slip and sheet of a call; none where it cannot be made.
+fn answer(timed: &Timed, standard: &Standard, lent: &mut Lent) -> Option<(u32, Vec<u8>, Vec<u8>)> {
+    lent.slip.fill(0);
+    lent.written.fill(0);
+    timed.can(&standard.operation).then(|| (timed.run(standard, lent), lent.slip.clone(), lent.written.clone()))
+}
+
+/// Those whose answers are alike, library and reference among them; a time for anything else would be worth nothing.
+fn alike<'a>(all: &'a [Timed], standard: &Standard, lent: &mut Lent) -> &'a [Timed] {
+    let answers: Vec<_> = all.iter().map(|timed| answer(timed, standard, lent)).collect();
+    let count = answers.iter().take_while(|answer| **answer == answers[0]).count();
+    assert!(count >= 2, "library and reference differ: {}", standard.name);
+    assert!(answers[0].as_ref().is_some_and(|answer| answer.0 / 65_536 == standard.refusal), "{}", standard.name);
+    &all[..count]
 }
 
 /// The medians, in microseconds.
 fn time(all: &[Timed], standard: &Standard, lent: &mut Lent) -> Vec<f64> {
-    compare(all, standard, lent);
     let calls: Vec<u32> = all.iter().map(|timed| warm_up(timed, standard, lent)).collect();
     let mut samples = vec![vec![]; all.len()];
     for turn in 0..SAMPLES {
@@ -128,8 +129,7 @@ fn main() {
     println!("| operation | sheet | library, µs | reference, µs | ratio |{head}");
     println!("|---|---|---:|---:|---:|{rule}");
     for standard in standard() {
-        let able = all.iter().take_while(|timed| timed.can(&standard.operation)).count();
-        let times = time(&all[..able], &standard, &mut lent);
+        let times = time(alike(&all, &standard, &mut lent), &standard, &mut lent);
         print!("| {} | {} | {} | {} | {:.2} |", standard.operation.name(), standard.name, shown(times[0]), shown(times[1]), times[0] / times[1]);
         if let Some(before) = times.get(2) {
             print!(" {} | {:.2} |", shown(*before), times[0] / before);

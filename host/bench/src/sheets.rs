@@ -55,27 +55,30 @@ fn everyday() -> Sheet {
             [tail as u32, ((tail + step) % 12) as u32, random.between(2, 25) as u32]
         })
         .collect();
-    let sheet = Sheet::new(12, 0, 11, 0, &arcs);
-    let sheet = [2, 5, 8].iter().fold(sheet, |sheet, &node| sheet.with_mark(node, MANDATORY));
-    let sheet = [12 + 20, 12 + 30].iter().fold(sheet, |sheet, &item| sheet.with_mark(item, FORBIDDEN));
+    let sheet = Sheet::new(12, 0, 11, 0, &arcs).with_marks([2, 5, 8], MANDATORY).with_marks([12 + 20, 12 + 30], FORBIDDEN);
     sheet.with_limit(least_length(&sheet) * 5 / 4)
 }
 
 /// Eight mandatory nodes.
 fn demanding(sheet: &Sheet) -> Sheet {
-    (0..8).fold(sheet.clone(), |sheet, i| sheet.with_mark(3 + 7 * i, MANDATORY))
+    sheet.with_marks((0..8).map(|i| 3 + 7 * i), MANDATORY)
+}
+
+/// Eight mandatory arcs: those of the ring out of the same nodes.
+fn driven(sheet: &Sheet) -> Sheet {
+    sheet.with_marks((0..8).map(|i| NODES + 3 + 7 * i), MANDATORY)
 }
 
 /// Every second arc behind the ring forbidden, `count` of them.
 fn half_closed(sheet: &Sheet, count: usize) -> Sheet {
-    (NODES + NODES..NODES + ARCS).step_by(2).take(count).fold(sheet.clone(), |sheet, item| sheet.with_mark(item, FORBIDDEN))
+    sheet.with_marks((NODES + NODES..NODES + ARCS).step_by(2).take(count), FORBIDDEN)
 }
 
 /// The 60 arcs behind the ring that take the fewest minutes forbidden.
 fn quickest_closed(sheet: &Sheet) -> Sheet {
     let mut arcs: Vec<usize> = (NODES..ARCS).collect();
     arcs.sort_by_key(|&arc| sheet.arcs[arc][2]);
-    arcs.iter().take(60).fold(sheet.clone(), |sheet, &arc| sheet.with_mark(NODES + arc, FORBIDDEN))
+    sheet.with_marks(arcs.iter().take(60).map(|arc| NODES + arc), FORBIDDEN)
 }
 
 /// A chain of 64 nodes from source to target, a minute from each to the next, and 449 short cuts that take three times as long as the chain, all open.
@@ -98,10 +101,10 @@ fn all_closed(sheet: &Sheet) -> Sheet {
     Sheet { marks: vec![FORBIDDEN; sheet.marks.len()], ..sheet.clone() }
 }
 
-/// The least length through all required nodes, or with none of them from source to target.
+/// The least length through all required items, or with none of them from source to target.
 fn least_length(sheet: &Sheet) -> u32 {
     let read = reference::Sheet::read(&sheet.bytes()).expect("a good sheet");
-    least(&read, &read.required_nodes()).expect("the ring is open") as u32
+    least(&read, &read.required_items).expect("the ring is open") as u32
 }
 
 fn pass_slip(sheet: &Sheet) -> Vec<u8> {
@@ -170,6 +173,10 @@ pub fn standard() -> Vec<Standard> {
     let blamed = closed.with_limit((open_length + closed_length) / 2);
     let too_long = closed.with_limit(open_length - 1);
     let all = all_closed(&plain).with_limit(least_length(&plain));
+    let arcs = driven(&plain);
+    let arcs_fit = arcs.with_limit(least_length(&arcs));
+    let arcs_closed = half_closed(&arcs, 224);
+    let arcs_blamed = arcs_closed.with_limit((least_length(&arcs) + least_length(&arcs_closed)) / 2);
     let few = quickest_closed(&eight);
     let few_blamed = few.with_limit((open_length + least_length(&few)) / 2);
     let few_too_long = few.with_limit(open_length - 1);
@@ -189,6 +196,8 @@ pub fn standard() -> Vec<Standard> {
         pass("the same, too long with all open", &too_long, 3),
         pass("64 nodes, 512 arcs, eight required", &few_blamed, 3),
         pass("the same, too long with all open", &few_too_long, 3),
+        pass("64 nodes, 512 arcs, eight arcs required", &arcs_fit, 0),
+        pass("64 nodes, 512 arcs, eight arcs required", &arcs_blamed, 3),
         pass("64 nodes, 512 arcs", &all, 1),
         pass("a chain of 64 nodes, 512 arcs, numbered along it", &chain(2, false), 0),
         pass("the same, numbered against it", &chain(2, true), 0),

@@ -1,7 +1,7 @@
 //! Slips that are altered in every way.
 
 use crate::random::Random;
-use crate::written::{number, numbers};
+use crate::written::{number, numbers, Sheet, MANDATORY};
 
 /// The numbers of a slip with first number 1 to 4. They need not keep to the rules.
 #[derive(Clone, Debug)]
@@ -53,17 +53,42 @@ fn numbers_in(bytes: &[u8]) -> Vec<u32> {
     all
 }
 
-/// The slip's bytes with one thing changed, in every way: each entry left out, doubled, moved or exchanged, items put in, another first number, wrong counts, bad
-/// writing, a wrong end. `items` is the number of items of the sheet. Of long lists some entries are tried.
-pub fn alterations(slip: &Slip, items: u32, random: &mut Random) -> Vec<Vec<u8>> {
+/// The slip's bytes with one thing changed, in every way: each entry left out, doubled, moved or exchanged, items put in, other goals of a 3, another first number,
+/// wrong counts, bad writing, a wrong end. Of long lists some entries are tried.
+pub fn alterations(slip: &Slip, sheet: &Sheet, random: &mut Random) -> Vec<Vec<u8>> {
+    let items = sheet.marks.len() as u32;
     let mut all: Vec<Vec<u8>> = vec![vec![]];
     all.extend((0..=5).map(|first| Slip { first, ..slip.clone() }.bytes()));
     all.extend(lists(&slip.goals, items, random).into_iter().map(|goals| slip.with_goals(goals).bytes()));
     all.extend(lists(&slip.reasons, items, random).into_iter().map(|reasons| slip.with_reasons(reasons).bytes()));
+    all.extend(goals_of_a_3(&slip.goals, sheet, random).into_iter().map(|goals| Slip { first: 3, ..slip.with_goals(goals) }.bytes()));
     all.push(Slip { goals: slip.reasons.clone(), reasons: slip.goals.clone(), ..*slip }.bytes());
     all.extend(wrong_counts(slip));
     all.extend(bad_writing(slip, random));
     all
+}
+
+/// Items that are counted or nearly so, each alone, beside the goals and instead of one: the mandatory items, the ends of mandatory arcs, source and target, and some
+/// that may have any mark.
+fn goals_of_a_3(goals: &[u32], sheet: &Sheet, random: &mut Random) -> Vec<Vec<u32>> {
+    let nodes = sheet.nodes as usize;
+    let is_mandatory = |item: &usize| sheet.marks[*item] == MANDATORY;
+    let mut items: Vec<u32> = (0..sheet.marks.len()).filter(is_mandatory).map(|item| item as u32).collect();
+    items.extend((nodes..sheet.marks.len()).filter(is_mandatory).flat_map(|item| sheet.arcs[item - nodes][..2].to_vec()));
+    items.extend([sheet.source, sheet.target, random.below(nodes) as u32, random.below(sheet.marks.len()) as u32]);
+    let mut all = vec![];
+    for item in items {
+        let at = random.below(goals.len() + 1);
+        let (front, back) = (&goals[..at], goals.get(at + 1..).unwrap_or(&[]));
+        all.extend([vec![item], ascending([goals, &[item]].concat()), ascending([front, &[item], back].concat())]);
+    }
+    all
+}
+
+fn ascending(mut list: Vec<u32>) -> Vec<u32> {
+    list.sort();
+    list.dedup();
+    list
 }
 
 /// Positions of a list: all, or some of a long one.

@@ -25,7 +25,7 @@ impl Draft {
 const ODD: [u32; 20] =
     [0, 1, 2, 63, 64, 65, 127, 128, 511, 512, 513, 65_535, 65_536, 1_000_000, 1_000_001, (1 << 28) - 1, 1 << 28, 1 << 31, u32::MAX - 1, u32::MAX];
 
-/// The draft with one fault or a few, or none that matters: a number exchanged for an odd one, the first nodes mandatory, a list shorter or longer.
+/// The draft with one fault or a few, or none that matters: a number exchanged for an odd one, the first or the last items mandatory, a list shorter or longer.
 pub fn spoiled(draft: &Draft, random: &mut Random) -> Draft {
     let mut spoiled = draft.clone();
     for _ in 0..random.between(1, 3) {
@@ -36,7 +36,7 @@ pub fn spoiled(draft: &Draft, random: &mut Random) -> Draft {
 
 fn spoil(draft: &mut Draft, random: &mut Random) {
     let odd = random.pick(&ODD);
-    match random.below(7) {
+    match random.below(8) {
         0 => draft.front[random.below(5)] = odd,
         1 | 2 if !draft.arcs.is_empty() => {
             let at = random.below(draft.arcs.len());
@@ -48,7 +48,8 @@ fn spoil(draft: &mut Draft, random: &mut Random) {
             draft.marks[at] = random.pick(&[0, 1, 2, 3, 127, 128, 255]);
         }
         4 => draft.marks.iter_mut().take(random.between(8, 11)).for_each(|mark| *mark = 1),
-        5 => lengthen_or_cut(&mut draft.arcs, random.pick(&[1, 2, 3]), random),
+        5 => draft.marks.iter_mut().rev().take(random.between(8, 11)).for_each(|mark| *mark = 1),
+        6 => lengthen_or_cut(&mut draft.arcs, random.pick(&[1, 2, 3]), random),
         _ => lengthen_or_cut(&mut draft.marks, 1, random),
     }
 }

@@ -20,13 +20,15 @@ pub enum Kind {
     Long,
     /// nearly everything forbidden
     Closed,
-    /// as many required nodes as are allowed
+    /// as many required items as are allowed, most of them nodes
     Required,
+    /// mandatory arcs, eight and nine of them: twins, with ends in common, with ends that are marked too, from source to target, out of the target
+    Driven,
 }
 
-pub const KINDS: [Kind; 8] = [Kind::Tiny, Kind::Small, Kind::Full, Kind::Zero, Kind::Parallel, Kind::Long, Kind::Closed, Kind::Required];
+pub const KINDS: [Kind; 9] = [Kind::Tiny, Kind::Small, Kind::Full, Kind::Zero, Kind::Parallel, Kind::Long, Kind::Closed, Kind::Required, Kind::Driven];
 
-/// A sheet that keeps to every rule of document 01, but that more than eight nodes may be required once in a while.
+/// A sheet that keeps to every rule of document 01, but that more than eight items may be required once in a while.
 pub fn draw(kind: Kind, random: &mut Random) -> Sheet {
     let (nodes, arc_count) = size(kind, random);
     let source = random.below(nodes);
@@ -52,6 +54,10 @@ fn size(kind: Kind, random: &mut Random) -> (usize, usize) {
         Kind::Long => (random.between(8, 64), random.between(64, 512)),
         Kind::Closed => (random.between(4, 64), random.between(10, 512)),
         Kind::Required => (random.between(11, 64), random.between(40, 512)),
+        Kind::Driven => {
+            let (nodes, arcs) = random.pick(&[(6, 30), (16, 100), (64, 512)]);
+            (random.between(2, nodes), random.between(9, arcs))
+        }
     }
 }
 
@@ -64,11 +70,17 @@ enum Shape {
     Ring,
     /// mostly out of the source or into the target: each node is near, and all of them together are not
     Fan,
+    /// mostly a twin of the arc before or one that goes on where that ends, or from source to target or out of the target
+    Linked,
 }
 
 /// Tail and head of each arc.
 fn ends(kind: Kind, nodes: usize, (source, target): (usize, usize), count: usize, random: &mut Random) -> Vec<(usize, usize)> {
-    let shape = if kind == Kind::Long { Shape::Ring } else { random.pick(&[Shape::Free, Shape::Ring, Shape::Fan, Shape::Fan]) };
+    let shape = match kind {
+        Kind::Long => Shape::Ring,
+        Kind::Driven => random.pick(&[Shape::Free, Shape::Ring, Shape::Linked, Shape::Linked]),
+        _ => random.pick(&[Shape::Free, Shape::Ring, Shape::Fan, Shape::Fan]),
+    };
     let ordered = random.between(5, 10);
     let mut ends = vec![];
     while ends.len() < count {
@@ -76,6 +88,10 @@ fn ends(kind: Kind, nodes: usize, (source, target): (usize, usize), count: usize
         let (tail, head) = match shape {
             Shape::Ring if random.chance(ordered, 10) => (tail, (tail + 1) % nodes),
             Shape::Fan if random.chance(ordered, 10) => random.pick(&[(source, head), (tail, target)]),
+            Shape::Linked if random.chance(ordered, 10) => {
+                let before = *ends.last().unwrap_or(&(source, target));
+                random.pick(&[before, (before.1, head), (source, target), (target, head)])
+            }
             _ => (tail, head),
         };
         if tail != head {
@@ -115,11 +131,12 @@ fn forbid(kind: Kind, sheet: &mut Sheet, random: &mut Random) {
     }
 }
 
-/// Makes items mandatory: nodes, and now and then arcs, whose ends are required too. Mostly open ones, some forbidden ones.
+/// Makes items mandatory: nodes, and now and then arcs. Mostly open ones, some forbidden ones.
 fn demand(kind: Kind, sheet: &mut Sheet, random: &mut Random) {
     let (nodes, arcs) = match kind {
         Kind::Required => random.pick(&[(8, 0), (8, 0), (6, 1), (4, 2), (0, 4), (9, 0)]),
         Kind::Full => random.pick(&[(0, 0), (1, 0), (8, 0), (4, 2), (2, 1)]),
+        Kind::Driven => return demand_arcs(sheet, random),
         _ => random.pick(&[(0, 0), (1, 0), (2, 0), (4, 0), (5, 0), (0, 1), (1, 1), (2, 2)]),
     };
     let count = sheet.nodes as usize;
@@ -128,6 +145,27 @@ fn demand(kind: Kind, sheet: &mut Sheet, random: &mut Random) {
     }
     for _ in 0..arcs.min(sheet.arcs.len()) {
         demand_one(sheet, count + random.below(sheet.arcs.len()), random);
+    }
+}
+
+/// Makes arcs in a row mandatory, some of their ends, and some other nodes.
+fn demand_arcs(sheet: &mut Sheet, random: &mut Random) {
+    let (arcs, others) = random.pick(&[(8, 0), (8, 0), (8, 1), (9, 0), (7, 1), (5, 3), (4, 4), (2, 2)]);
+    let marked_ends = random.pick(&[0, 20, 100]);
+    let count = sheet.nodes as usize;
+    let first = random.below(sheet.arcs.len());
+    for i in first..first + arcs {
+        let arc = i % sheet.arcs.len();
+        let [tail, head, _] = sheet.arcs[arc];
+        sheet.marks[count + arc] = MANDATORY;
+        for end in [tail, head] {
+            if random.chance(marked_ends, 100) {
+                demand_one(sheet, end as usize, random);
+            }
+        }
+    }
+    for _ in 0..others {
+        demand_one(sheet, random.below(count), random);
     }
 }
 

@@ -1,4 +1,4 @@
-//! The lines of document 01, 'The sheet B and what it gives'.
+//! The lines of document 01, 'The sheet B and what it gives', and those that request 2.3 adds.
 
 use crate::written::{sheet_b, Sheet, FORBIDDEN, MANDATORY};
 
@@ -34,7 +34,65 @@ pub fn starred() -> Vec<Line> {
         pass(b.with_mark(1, FORBIDDEN), &[1, 0, 1, 1]),
         pass(b.with_mark(1, FORBIDDEN).with_mark(5, FORBIDDEN), &[1, 0, 1, 5]),
         pass(b.with_limit(13).with_mark(8, MANDATORY), &[2, 1, 8, 0]),
+        pass(ramp(), &[3, 2, 1, 6, 0]),
     ]
+}
+
+/// B with a mandatory node and a mandatory arc. A walk over the node can touch both ends of the arc, and has no time to drive it.
+fn ramp() -> Sheet {
+    sheet_b().with_limit(14).with_marks([1, 6], MANDATORY)
+}
+
+/// Lines of request 2.3 that are not starred: arcs that one walk drives, and twins without and with a way back.
+pub fn driven() -> Vec<Line> {
+    let arcs = [[0, 1, 1], [0, 1, 1], [1, 0, 1]];
+    vec![
+        pass(sheet_b().with_limit(14).with_marks([4, 8], MANDATORY), &[0, 1, 1, 1, 1, 1, 0, 0, 0, 1]),
+        pass(Sheet::new(2, 0, 1, 9, &arcs[..2]).with_marks([2, 3], MANDATORY), &[3, 2, 2, 3, 0]),
+        pass(Sheet::new(2, 0, 1, 9, &arcs).with_marks([2, 3], MANDATORY), &[0, 1, 1, 1, 1, 0]),
+    ]
+}
+
+/// Slips with first number 3, with the sheet, and whether check says yes. No walk meets the goals of those that name 1 and 6, so for them the goals' marks decide.
+pub fn checks() -> Vec<(Sheet, &'static [u8], bool)> {
+    let ramp = ramp();
+    let marked_ends = ramp.with_marks([0, 2, 3], MANDATORY);
+    vec![
+        (ramp.clone(), &[3, 2, 1, 6, 0], true),
+        (ramp.clone(), &[3, 2, 1, 2, 0], false),
+        (ramp.clone(), &[3, 2, 1, 4, 0], false),
+        (ramp.clone(), &[3, 1, 6, 0], false),
+        (ramp.clone(), &[3, 3, 1, 4, 6, 0], false),
+        (ramp, &[3, 3, 1, 2, 6, 0], false),
+        (marked_ends.clone(), &[3, 2, 1, 6, 0], true),
+        (marked_ends.clone(), &[3, 3, 0, 1, 6, 0], false),
+        (marked_ends.clone(), &[3, 3, 1, 2, 6, 0], false),
+        (marked_ends, &[3, 3, 1, 3, 6, 0], false),
+    ]
+}
+
+/// Sheets with eight required items, each beside the same with one more: nodes and arcs, the walk's ends and the arcs' ends marked too, arcs from source to target
+/// and out of the target.
+pub fn eight_and_nine() -> Vec<[Sheet; 2]> {
+    let arcs: Vec<[u32; 3]> = (0..15).map(|node| [node, node + 1, 1]).collect();
+    let chain = Sheet::new(16, 0, 15, 30, &arcs);
+    let nodes = chain.with_marks(1..9, MANDATORY);
+    let arcs = chain.with_marks(16..24, MANDATORY);
+    let mixed = chain.with_marks([10, 11, 12, 13, 17, 19, 21, 23], MANDATORY);
+    let twins = |arc: [u32; 3]| Sheet::new(2, 0, 1, 99, &[arc; 9]).with_marks(2..10, MANDATORY);
+    let with_ninth = [
+        (nodes.with_marks([0, 15], MANDATORY), 9),
+        (nodes.with_marks([9, 17], MANDATORY), 10),
+        (nodes, 30),
+        (arcs.with_marks(0..9, MANDATORY), 24),
+        (arcs.with_marks(0..9, FORBIDDEN), 12),
+        (arcs, 30),
+        (mixed.with_marks(1..9, MANDATORY), 14),
+        (mixed.with_marks(1..9, FORBIDDEN), 24),
+        (twins([0, 1, 1]), 10),
+        (twins([1, 0, 1]), 10),
+    ];
+    with_ninth.into_iter().map(|(eight, item)| [eight.clone(), eight.with_mark(item, MANDATORY)]).collect()
 }
 
 /// Eleven nodes and no arc, of which the first few after the source are mandatory.
@@ -56,5 +114,6 @@ pub fn formats() -> Vec<(Vec<u8>, usize, u32)> {
         (b, 1_199, 2),
         (with_required(8).bytes(), 1_200, 0),
         (with_required(9).bytes(), 1_200, 13),
+        (Sheet::new(2, 0, 1, 99, &[[0, 1, 1]; 9]).with_marks(2..11, MANDATORY).bytes(), 1_200, 13),
     ]
 }

@@ -29,8 +29,12 @@ impl Sheet {
     }
 
     pub fn with_mark(&self, item: usize, mark: u32) -> Sheet {
+        self.with_marks([item], mark)
+    }
+
+    pub fn with_marks(&self, items: impl IntoIterator<Item = usize>, mark: u32) -> Sheet {
         let mut sheet = self.clone();
-        sheet.marks[item] = mark;
+        items.into_iter().for_each(|item| sheet.marks[item] = mark);
         sheet
     }
 

@@ -1,5 +1,5 @@
-//! A second implementation of pass, reason, check and the writer, written from document 01 and request 2.1, to hold the proved library to. Points that document 01 leaves open are settled as
-//! docs/DECISIONS.md has them, so a fault there would be in both.
+//! A second implementation of pass, reason, check and the writer, written from document 01 and requests 2.1 and 2.3, to hold the proved library to. Points that
+//! these leave open are settled as docs/DECISIONS.md has them, so a fault there would be in both.
 //!
 //! It shares no code with the library. What differs: the library relaxes rows of lengths by sweeps over the arcs up to the limit, and puts rows back where an opening is
 //! not kept. Here

@@ -86,7 +86,7 @@ fn lent(work: &[u8], slip: Option<&[u8]>) -> Result<(), Refusal> {
     }
 }
 
-/// 14 is never drawn: a shortest walk through eight nodes has nine stretches of at most 63 arcs, so less than 2^26 minutes.
+/// 14 is never drawn: a shortest walk through eight items has nine stretches of at most 63 arcs, and the items that are arcs, so less than 2^26 minutes.
 fn outcome(answer: Result<usize, Refusal>, work: &mut [u8]) -> u32 {
     if !matches!(answer, Err(refusal) if refusal <= LAST_THAT_KEEPS_WORK) {
         work[..WORK_BYTES].fill(0);
@@ -133,13 +133,12 @@ impl Pass<'_> {
         if let Some(item) = (0..sheet.items()).find(|&item| sheet.marks[item] == MANDATORY && !self.fits(item)) {
             return (ONE_GOAL, vec![item]);
         }
-        if sheet.required == 0 {
+        if sheet.required_items.is_empty() {
             return (0, Vec::new());
         }
-        let required = sheet.required_nodes();
-        self.lengths.add_goals(sheet, &self.graph, &required);
+        self.lengths.add_goals(sheet, &self.graph, &sheet.required_items);
         if self.lengths.through_goals(&self.lengths.pairs()) > sheet.limit {
-            return (ALL_GOALS, required);
+            return (ALL_GOALS, sheet.required_items.clone());
         }
         self.lengths.drop_goals();
         (0, Vec::new())
@@ -203,25 +202,20 @@ fn check_on(sheet: &Sheet, slip: &[u8]) -> Result<bool, Refusal> {
 }
 
 fn is_well_formed(sheet: &Sheet, slip: &Slip) -> bool {
-    let known = |list: &[usize], count: usize| list.iter().all(|&item| item < count);
+    let known = |list: &[usize]| list.iter().all(|&item| item < sheet.items());
     let ascending = |list: &[usize]| list.windows(2).all(|two| two[0] < two[1]);
     let goals = match slip.first {
         NO_GOAL => 0..=0,
         ALL_GOALS => 1..=8,
         _ => 1..=1,
     };
-    let goal_items = if slip.first == ALL_GOALS { sheet.nodes } else { sheet.items() };
-    known(&slip.goals, goal_items)
-        && known(&slip.reasons, sheet.items())
-        && ascending(&slip.goals)
-        && ascending(&slip.reasons)
-        && goals.contains(&slip.goals.len())
+    known(&slip.goals) && known(&slip.reasons) && ascending(&slip.goals) && ascending(&slip.reasons) && goals.contains(&slip.goals.len())
 }
 
 fn is_goal(sheet: &Sheet, first: usize, goal: usize) -> bool {
     match first {
         ONE_GOAL => sheet.marks[goal] == MANDATORY,
-        ALL_GOALS => sheet.required >> goal & 1 == 1,
+        ALL_GOALS => sheet.required_items.contains(&goal),
         _ => sheet.marks[goal] == OPEN,
     }
 }

@@ -11,7 +11,7 @@ const MOST_NODES: u32 = 64;
 const MOST_ARCS: u32 = 512;
 const MOST_LIMIT: u32 = 1_000_000;
 const MOST_MINUTES: u32 = 65_535;
-const MOST_REQUIRED: u32 = 8;
+const MOST_REQUIRED: usize = 8;
 
 const NODE_COUNT: Refusal = 5;
 const ARC_COUNT: Refusal = 6;
@@ -39,8 +39,8 @@ pub struct Sheet {
     pub target: usize,
     pub limit: u64,
     pub marks: Vec<u8>,
-    /// the required nodes (document 01: counted stops), a bit each
-    pub required: u64,
+    /// ascending (request 2.3: counted things)
+    pub required_items: Vec<usize>,
 }
 
 impl Sheet {
@@ -57,25 +57,20 @@ impl Sheet {
         if !reader.rest.is_empty() {
             return Err(BYTES_REMAIN);
         }
-        let ends_of_walk = 1 << source | 1 << target;
-        let required = demanded(nodes as usize, &arcs, &marks) & !ends_of_walk;
-        if required.count_ones() > MOST_REQUIRED {
+        let required_items = required_items(nodes as usize, &arcs, &marks, 1 << source | 1 << target);
+        if required_items.len() > MOST_REQUIRED {
             return Err(TOO_MANY_REQUIRED);
         }
-        Ok(Sheet { nodes: nodes as usize, arcs, source: source as usize, target: target as usize, limit: limit.into(), marks, required })
+        Ok(Sheet { nodes: nodes as usize, arcs, source: source as usize, target: target as usize, limit: limit.into(), marks, required_items })
     }
 
     pub fn items(&self) -> usize {
         self.nodes + self.arcs.len()
     }
 
-    pub fn required_nodes(&self) -> Vec<usize> {
-        (0..self.nodes).filter(|&node| self.required >> node & 1 == 1).collect()
-    }
-
-    /// The nodes that end a mandatory arc, a bit each.
+    /// The nodes that end a mandatory arc, a bit each. All mandatory arcs are required.
     pub fn ends_of_mandatory(&self) -> u64 {
-        ends_of_mandatory(self.nodes, &self.arcs, &self.marks)
+        ends_of_arcs(self.nodes, &self.arcs, &self.required_items)
     }
 }
 
@@ -98,13 +93,16 @@ fn read_marks(reader: &mut Reader, count: u32) -> Result<Vec<u8>, Refusal> {
     Ok(marks)
 }
 
-fn ends_of_mandatory(nodes: usize, arcs: &[Arc], marks: &[u8]) -> u64 {
-    let mandatory = arcs.iter().zip(&marks[nodes..]).filter(|(_, &mark)| mark == MANDATORY);
-    mandatory.fold(0, |ends, (arc, _)| ends | 1 << arc.tail | 1 << arc.head)
+/// The nodes that the arcs among the items end at, a bit each.
+fn ends_of_arcs(nodes: usize, arcs: &[Arc], items: &[usize]) -> u64 {
+    let among = items.iter().filter_map(|item| Some(arcs[item.checked_sub(nodes)?]));
+    among.fold(0, |ends, arc| ends | 1 << arc.tail | 1 << arc.head)
 }
 
-/// The nodes that are mandatory or end a mandatory arc, a bit each.
-fn demanded(nodes: usize, arcs: &[Arc], marks: &[u8]) -> u64 {
-    let mandatory = (0..nodes).filter(|&node| marks[node] == MANDATORY);
-    mandatory.fold(ends_of_mandatory(nodes, arcs, marks), |all, node| all | 1 << node)
+/// The mandatory arcs, and the mandatory nodes that end neither the walk nor such an arc.
+fn required_items(nodes: usize, arcs: &[Arc], marks: &[u8], ends_of_walk: u64) -> Vec<usize> {
+    let mut items: Vec<usize> = (0..marks.len()).filter(|&item| marks[item] == MANDATORY).collect();
+    let ends = ends_of_walk | ends_of_arcs(nodes, arcs, &items);
+    items.retain(|&item| item >= nodes || ends >> item & 1 == 0);
+    items
 }

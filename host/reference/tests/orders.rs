@@ -3,11 +3,10 @@
 
 mod by_definition;
 
-use by_definition::{required, Trial};
+use by_definition::Trial;
 use cases::{draw, Kind, Random, Sheet, Slip, OPEN};
 
 const MISSING: u64 = u64::MAX / 4;
-const MOST_REQUIRED: usize = 8;
 
 type Table = Vec<Vec<u64>>;
 
@@ -71,10 +70,12 @@ fn fits(sheet: &Sheet, closed: &[bool], goals: &[usize]) -> bool {
     is_clear && some_order(sheet, &table, sheet.source as usize, sheet.limit.into(), &mut goals.to_vec())
 }
 
-/// A limit at, or one below, the least length through the required nodes, so that verdict 3 comes up; or as drawn.
+/// A limit at, or one below, the least length through the required items, so that verdict 3 comes up; or as drawn.
 fn with_close_limit(sheet: Sheet, random: &mut Random) -> Sheet {
-    let read = reference::Sheet::read(&sheet.bytes()).expect("a good sheet");
-    match reference::least(&read, &read.required_nodes()) {
+    let Ok(read) = reference::Sheet::read(&sheet.bytes()) else {
+        return sheet;
+    };
+    match reference::least(&read, &read.required_items) {
         Some(length) if random.chance(3, 4) => sheet.with_limit(length.saturating_sub(random.below(2) as u64).min(1_000_000) as u32),
         _ => sheet,
     }
@@ -96,11 +97,10 @@ fn try_sheets(kind: Kind, sheets: usize) {
     let mut trial = Trial::new(fits);
     for _ in 0..sheets {
         let drawn = draw(kind, &mut random);
-        if required(&drawn).len() > MOST_REQUIRED {
-            continue;
-        }
         let sheet = with_close_limit(drawn, &mut random);
-        let passed = trial.pass(&sheet);
+        let Some(passed) = trial.pass(&sheet) else {
+            continue;
+        };
         let struck: Vec<usize> = (0..sheet.marks.len()).filter(|&item| passed[0] == 0 && sheet.marks[item] == OPEN && passed[item + 1] == 2).collect();
         if !struck.is_empty() {
             trial.reason(&sheet, &passed, random.pick(&struck));
@@ -131,4 +131,9 @@ fn many_closures() {
 #[test]
 fn many_required() {
     try_sheets(Kind::Required, 200);
+}
+
+#[test]
+fn many_mandatory_arcs() {
+    try_sheets(Kind::Driven, 300);
 }

@@ -1,6 +1,6 @@
-//! The reference on the lines of document 01, 'The sheet B and what it gives'.
+//! The reference on the lines of document 01, 'The sheet B and what it gives', and on those of request 2.3.
 
-use cases::{formats, sheet_b, starred, Line, Sheet, FORBIDDEN};
+use cases::{checks, driven, eight_and_nine, formats, sheet_b, starred, Line, Sheet, FORBIDDEN, MANDATORY};
 use reference::{check, pass, program, reason, SLIP_BYTES, WORK_BYTES};
 
 const REFUSED: u32 = 65_536;
@@ -25,7 +25,7 @@ fn refusal(bytes: &[u8], slip: usize) -> u32 {
 
 #[test]
 fn the_table_of_b() {
-    for Line { sheet, item, slip } in starred() {
+    for Line { sheet, item, slip } in starred().into_iter().chain(driven()) {
         let written = match item {
             None => pass_slip(&sheet),
             Some(item) => reason_slip(&sheet, item),
@@ -53,11 +53,27 @@ fn check_of_b() {
 }
 
 #[test]
+fn checks_of_a_3() {
+    for (sheet, slip, yes) in checks() {
+        assert_eq!(check(&sheet.bytes(), &mut vec![0; WORK_BYTES], slip), yes.into(), "{sheet:?} {slip:?}");
+    }
+}
+
+#[test]
+fn eight_and_nine_required() {
+    for [eight, nine] in eight_and_nine() {
+        assert_eq!(refusal(&eight.bytes(), SLIP_BYTES), 0, "{eight:?}");
+        assert_eq!(refusal(&nine.bytes(), SLIP_BYTES), 13, "{nine:?}");
+    }
+}
+
+#[test]
 fn the_program() {
     let b = sheet_b();
     assert_eq!(program(&b.bytes()), "verdict 0\nstruck 2 6 7 8\n");
     assert_eq!(program(&b.with_limit(14).bytes()), "verdict 0\nstruck\n");
     assert_eq!(program(&b.with_limit(7).bytes()), "verdict 1\nneeds\nbecause\n");
     assert_eq!(program(&b.with_mark(1, FORBIDDEN).bytes()), "verdict 1\nneeds\nbecause 1\n");
+    assert_eq!(program(&b.with_limit(14).with_marks([1, 6], MANDATORY).bytes()), "verdict 3\nneeds 1 6\nbecause\n");
     assert_eq!(program(&[]), "refused 3\n");
 }

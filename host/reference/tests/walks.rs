@@ -1,9 +1,10 @@
-//! The reference on small sheets against document 01 taken at its word: every walk up to a length is tried.
+//! The reference on small sheets against document 01 and request 2.3 taken at their word: every walk is tried.
 
 mod by_definition;
 
-use by_definition::{required, Trial};
+use by_definition::{forbidden, required_items, Trial};
 use cases::{Random, Sheet, FORBIDDEN, MANDATORY};
+use std::collections::HashMap;
 
 const SHEETS: usize = 100_000;
 
@@ -12,35 +13,37 @@ struct Search<'a> {
     sheet: &'a Sheet,
     closed: &'a [bool],
     goals: &'a [usize],
-    met: Vec<bool>,
+    /// the most minutes that a walk had left at a node with these goals met: with no more of them, all that can follow was tried
+    tried: HashMap<(usize, u32), u32>,
 }
 
 impl Search<'_> {
-    /// Some walk from the node goes on to the target within the minutes and arcs that are left, so that all goals are met.
-    fn goes_on(&mut self, node: usize, minutes: u32, arcs_left: usize) -> bool {
-        if self.closed[node] {
+    /// The goal that an item is, as a set, or none.
+    fn met_by(&self, item: usize) -> u32 {
+        self.goals.iter().position(|&goal| goal == item).map_or(0, |goal| 1 << goal)
+    }
+
+    /// Some walk that comes to the node with these goals met goes on to the target within the minutes that are left, so that all goals are met.
+    fn goes_on(&mut self, node: usize, met: u32, minutes: u32) -> bool {
+        let met = met | self.met_by(node);
+        if self.closed[node] || self.tried.get(&(node, met)).is_some_and(|&left| left >= minutes) {
             return false;
         }
-        let node_met = std::mem::replace(&mut self.met[node], true);
-        let mut found = node == self.sheet.target as usize && self.goals.iter().all(|&goal| self.met[goal]);
-        for arc in 0..self.sheet.arcs.len() {
+        self.tried.insert((node, met), minutes);
+        let ends = node == self.sheet.target as usize && met.count_ones() as usize == self.goals.len();
+        ends || (0..self.sheet.arcs.len()).any(|arc| {
             let [tail, head, weight] = self.sheet.arcs[arc];
             let item = self.sheet.nodes as usize + arc;
-            if !found && arcs_left > 0 && tail as usize == node && weight <= minutes && !self.closed[item] {
-                let arc_met = std::mem::replace(&mut self.met[item], true);
-                found = self.goes_on(head as usize, minutes - weight, arcs_left - 1);
-                self.met[item] = arc_met;
-            }
-        }
-        self.met[node] = node_met;
-        found
+            let leaves = tail as usize == node && weight <= minutes && !self.closed[item];
+            leaves && self.goes_on(head as usize, met | self.met_by(item), minutes - weight)
+        })
     }
 }
 
-/// Some walk clear of the closed items meets the goals within the limit. A shortest one needs no more than n arcs for each goal and n to the target.
+/// Some walk clear of the closed items meets the goals within the limit.
 fn fits(sheet: &Sheet, closed: &[bool], goals: &[usize]) -> bool {
-    let mut search = Search { sheet, closed, goals, met: vec![false; sheet.marks.len()] };
-    search.goes_on(sheet.source as usize, sheet.limit, sheet.nodes as usize * (1 + goals.len()))
+    let mut search = Search { sheet, closed, goals, tried: HashMap::new() };
+    search.goes_on(sheet.source as usize, 0, sheet.limit)
 }
 
 /// The number of arcs of a fan that are drawn freely. They stand in front.
@@ -68,7 +71,7 @@ fn draw(random: &mut Random) -> Sheet {
     let mut sheet = Sheet::new(nodes as u32, source as u32, target as u32, random.below(14) as u32, &arcs);
     let closed = if fan { random.pick(&[0, 5, 15]) } else { random.pick(&[0, 10, 40, 70]) };
     let demanded_nodes = random.pick(&[0, 20, 60]);
-    let demanded_arcs = random.pick(&[0, 0, 20]);
+    let demanded_arcs = random.pick(&[0, 0, 20, 60]);
     for item in 0..sheet.marks.len() {
         let demanded = if item < nodes { demanded_nodes } else { demanded_arcs };
         let is_free = fan && (nodes..nodes + FREE).contains(&item);
@@ -81,17 +84,32 @@ fn draw(random: &mut Random) -> Sheet {
     sheet
 }
 
-/// Check on a slip of random content.
+/// Check on a slip of random content. The goals of a 3 are mandatory items, most of them required, or any.
 fn try_check(trial: &mut Trial, sheet: &Sheet, random: &mut Random) -> bool {
     let listed: Vec<usize> = (0..sheet.marks.len()).filter(|_| random.chance(1, 3)).filter(|&item| sheet.marks[item] == FORBIDDEN).collect();
     let first = random.between(1, 4) as u32;
     let goals: Vec<usize> = match first {
         1 => vec![],
-        3 => required(sheet).into_iter().filter(|_| random.chance(2, 3)).collect(),
+        3 => {
+            let any = random.chance(1, 4);
+            (0..sheet.marks.len()).filter(|&item| (any || sheet.marks[item] == MANDATORY) && random.chance(2, 3)).take(8).collect()
+        }
         _ => vec![random.below(sheet.marks.len())],
     };
     let is_empty_third = first == 3 && goals.is_empty();
     !is_empty_third && trial.check(sheet, first, &goals, &listed)
+}
+
+/// To meet the required items is to meet all mandatory ones.
+#[test]
+fn required_for_all_mandatory() {
+    let mut random = Random::new(2);
+    for _ in 0..SHEETS {
+        let sheet = draw(&mut random);
+        let closed = forbidden(&sheet);
+        let mandatory: Vec<usize> = (0..sheet.marks.len()).filter(|&item| sheet.marks[item] == MANDATORY).collect();
+        assert_eq!(fits(&sheet, &closed, &required_items(&sheet)), fits(&sheet, &closed, &mandatory), "{sheet:?}");
+    }
 }
 
 #[test]
@@ -101,7 +119,9 @@ fn small_sheets_by_every_walk() {
     let mut yes = 0;
     for _ in 0..SHEETS {
         let sheet = draw(&mut random);
-        let passed = trial.pass(&sheet);
+        let Some(passed) = trial.pass(&sheet) else {
+            continue;
+        };
         for item in 0..sheet.marks.len() {
             trial.reason(&sheet, &passed, item);
         }
@@ -110,4 +130,5 @@ fn small_sheets_by_every_walk() {
     println!("{SHEETS} sheets: {:?}, checks with yes {yes}", trial.counts);
     assert!(trial.counts.verdicts.iter().all(|&count| count > SHEETS / 100), "a verdict is rare");
     assert!(trial.counts.with_reasons[1..].iter().all(|&count| count > SHEETS / 500), "reasons are rare");
+    assert!(trial.counts.with_arcs > SHEETS / 100, "arcs as goals are rare");
 }

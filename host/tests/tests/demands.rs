@@ -32,7 +32,7 @@ impl Calls {
 }
 
 fn draw_any(random: &mut Random) -> Sheet {
-    let kind = random.pick(&[Kind::Tiny, Kind::Small, Kind::Zero, Kind::Closed, Kind::Required]);
+    let kind = random.pick(&[Kind::Tiny, Kind::Small, Kind::Zero, Kind::Closed, Kind::Required, Kind::Driven]);
     draw(kind, random)
 }
 
@@ -71,7 +71,7 @@ fn lists_do_it_and_none_can_be_dropped() {
 }
 
 /// A later sheet with the same map, source and target, every listed closure forbidden and no greater limit, whatever else it marks. For a refused round everything
-/// named is demanded there.
+/// named is demanded there, though a node need not be required: it may end a mandatory arc.
 fn later(sheet: &Sheet, slip: &Slip, random: &mut Random) -> Sheet {
     let smaller = random.between(0, sheet.limit as usize) as u32;
     let mut later = sheet.with_limit(random.pick(&[sheet.limit, sheet.limit, smaller]));
@@ -84,6 +84,10 @@ fn later(sheet: &Sheet, slip: &Slip, random: &mut Random) -> Sheet {
         } else {
             OPEN
         };
+    }
+    let at_goal = later.arcs.iter().position(|arc| slip.goals.contains(&arc[0]) || slip.goals.contains(&arc[1]));
+    if let Some(arc) = at_goal.filter(|_| random.chance(1, 3)) {
+        later.marks[later.nodes as usize + arc] = MANDATORY;
     }
     slip.reasons.iter().for_each(|&item| later.marks[item as usize] = FORBIDDEN);
     if slip.first != 4 {

@@ -1,6 +1,6 @@
 //! Every end, every bound and one beyond, every byte changed: what the three functions refuse, and what they leave then.
 
-use cases::{alterations, draw, number, sheet_b, Kind, Random, Sheet, Slip, FORBIDDEN, MANDATORY};
+use cases::{alterations, draw, eight_and_nine, number, sheet_b, Kind, Random, Sheet, Slip, FORBIDDEN, MANDATORY};
 use tests::{Call, Desk, REFUSED};
 use ways::{SLIP_BYTES, WORK_BYTES};
 
@@ -119,29 +119,12 @@ fn every_limit_and_one_over() {
     assert_eq!(refusal(Sheet::new(3, 2, 1, 5, &[[2, 1, 0]]).with_mark(0, 3)), 11);
 }
 
-/// Required nodes by nodes and by arcs' ends, source and target and forbidden ones among them: eight and nine.
 #[test]
 fn eight_and_nine_required() {
     let mut desk = Desk::new(6);
-    let arcs: Vec<[u32; 3]> = (0..15).map(|node| [node, node + 1, 1]).collect();
-    let plain = Sheet::new(16, 0, 15, 30, &arcs);
-    let demanding = |nodes: &[usize], arcs: &[usize]| {
-        let by_nodes = nodes.iter().fold(plain.clone(), |sheet, &node| sheet.with_mark(node, MANDATORY));
-        arcs.iter().fold(by_nodes, |sheet, &arc| sheet.with_mark(16 + arc, MANDATORY))
-    };
-    let eight = [
-        demanding(&[0, 1, 2, 3, 4, 5, 6, 7, 8, 15], &[]),
-        demanding(&[], &[1, 3, 5, 7]),
-        demanding(&[1, 2], &[1, 3, 5, 7]),
-        demanding(&[], &[0, 2, 4, 6, 14]).with_mark(16 + 6, 0).with_mark(9, MANDATORY),
-        demanding(&[], &[1, 3, 5, 7]).with_mark(2, FORBIDDEN),
-    ];
-    for sheet in &eight {
-        assert_eq!(try_all(&mut desk, &sheet.bytes()), 0);
-    }
-    for sheet in [eight[0].with_mark(9, MANDATORY), eight[1].with_mark(10, MANDATORY), eight[2].with_mark(16 + 8, MANDATORY), eight[4].with_mark(10, MANDATORY)]
-    {
-        assert_eq!(try_all(&mut desk, &sheet.bytes()), 13);
+    for [eight, nine] in eight_and_nine() {
+        assert_eq!(try_all(&mut desk, &eight.bytes()), 0);
+        assert_eq!(try_all(&mut desk, &nine.bytes()), 13);
     }
 }
 
@@ -181,7 +164,8 @@ fn slips_altered_in_every_way() {
     let b = sheet_b();
     let both = b.with_mark(1, MANDATORY).with_mark(2, MANDATORY);
     let mut sheets = vec![b.with_limit(7), b.with_mark(2, MANDATORY), both.with_limit(14).with_mark(8, FORBIDDEN), b.with_limit(12).with_mark(4, FORBIDDEN)];
-    sheets.extend((0..40).map(|i| draw([Kind::Small, Kind::Closed, Kind::Required][i % 3], &mut random)));
+    sheets.push(b.with_limit(14).with_marks([1, 6], MANDATORY));
+    sheets.extend((0..80).map(|i| draw([Kind::Small, Kind::Closed, Kind::Required, Kind::Driven][i % 4], &mut random)));
     let mut tried = [0; 5];
     for sheet in sheets {
         let bytes = sheet.bytes();
@@ -189,7 +173,7 @@ fn slips_altered_in_every_way() {
         slips.extend((0..sheet.marks.len() as u32).filter_map(|item| desk.reason(&bytes, item)).take(3));
         for slip in slips.iter().filter_map(|slip| Slip::written(slip)) {
             tried[slip.first as usize] += 1;
-            for altered in alterations(&slip, sheet.marks.len() as u32, &mut random) {
+            for altered in alterations(&slip, &sheet, &mut random) {
                 desk.check(&bytes, &altered);
             }
             let whole = slip.bytes();

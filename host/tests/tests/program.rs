@@ -51,6 +51,7 @@ fn what_document_01_prints() {
     assert_eq!(print(b.with_mark(1, FORBIDDEN).with_mark(5, FORBIDDEN)), "verdict 1\nneeds\nbecause 5\n");
     let both = b.with_limit(14).with_mark(1, MANDATORY).with_mark(2, MANDATORY).with_mark(8, FORBIDDEN);
     assert_eq!(print(both), "verdict 3\nneeds 1 2\nbecause 8\n");
+    assert_eq!(print(b.with_limit(14).with_marks([1, 6], MANDATORY)), "verdict 3\nneeds 1 6\nbecause\n");
     assert_eq!(printed(&program, &[]), "refused 3\n");
 }
 

@@ -17,7 +17,7 @@ fn with_close_limit(sheet: Sheet, random: &mut Random) -> Sheet {
         0 => return sheet,
         1 => vec![],
         2 => vec![random.below(read.items())],
-        _ => read.required_nodes(),
+        _ => read.required_items.clone(),
     };
     let Some(least) = reference::least(&read, &goals) else {
         return sheet;
@@ -26,7 +26,7 @@ fn with_close_limit(sheet: Sheet, random: &mut Random) -> Sheet {
     sheet.with_limit(limit as u32)
 }
 
-/// Slips that differ in nothing but what they claim: items with the right mark, and forbidden ones as reasons.
+/// Slips that differ in nothing but what they claim: items with the right mark, and forbidden ones as reasons. Of the mandatory items, not all may be goals of a 3.
 fn made_up(sheet: &Sheet, random: &mut Random) -> Slip {
     let items = sheet.marks.len() as u32;
     let first = random.between(1, 4) as u32;
@@ -37,21 +37,24 @@ fn made_up(sheet: &Sheet, random: &mut Random) -> Slip {
     let goals = match first {
         1 => vec![],
         2 => one(marked(MANDATORY), random),
-        3 => stops(sheet).into_iter().filter(|_| random.chance(3, 4)).collect(),
+        3 => {
+            let items = if random.chance(2, 3) { required_items(sheet) } else { marked(MANDATORY) };
+            items.into_iter().filter(|_| random.chance(3, 4)).collect()
+        }
         _ => one(marked(OPEN), random),
     };
     Slip { first, goals, reasons }
 }
 
-fn stops(sheet: &Sheet) -> Vec<u32> {
+fn required_items(sheet: &Sheet) -> Vec<u32> {
     let read = reference::Sheet::read(&sheet.bytes());
-    read.map_or(vec![], |read| read.required_nodes().into_iter().map(|node| node as u32).collect())
+    read.map_or(vec![], |read| read.required_items.into_iter().map(|item| item as u32).collect())
 }
 
 fn try_checks(desk: &mut Desk, sheet: &Sheet, bytes: &[u8], slip: &[u8], random: &mut Random) {
     if let Some(written) = Slip::written(slip) {
         assert_eq!(desk.check(bytes, slip), 1, "a written slip");
-        let altered = alterations(&written, sheet.marks.len() as u32, random);
+        let altered = alterations(&written, sheet, random);
         for _ in 0..3 {
             desk.check(bytes, &altered[random.below(altered.len())]);
         }
@@ -143,4 +146,9 @@ fn many_closures() {
 #[test]
 fn many_required() {
     try_sheets(Kind::Required, 10_000);
+}
+
+#[test]
+fn many_mandatory_arcs() {
+    try_sheets(Kind::Driven, 12_000);
 }

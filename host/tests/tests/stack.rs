@@ -31,24 +31,25 @@ fn longest() -> Sheet {
     Sheet::new(NODES as u32, 0, 15, 1_000_000, &arcs)
 }
 
-fn marked(sheet: &Sheet, items: impl Iterator<Item = usize>, mark: u32) -> Sheet {
-    items.fold(sheet.clone(), |sheet, item| sheet.with_mark(item, mark))
-}
-
 /// Eight mandatory nodes.
 fn demanding(sheet: &Sheet) -> Sheet {
-    marked(sheet, (0..8).map(|i| 3 + 7 * i), MANDATORY)
+    sheet.with_marks((0..8).map(|i| 3 + 7 * i), MANDATORY)
+}
+
+/// Eight mandatory arcs of the ring, out of those nodes.
+fn driven(sheet: &Sheet) -> Sheet {
+    sheet.with_marks((0..8).map(|i| NODES + 3 + 7 * i), MANDATORY)
 }
 
 /// Every second arc behind the ring forbidden.
 fn half_closed(sheet: &Sheet) -> Sheet {
-    marked(sheet, (2 * NODES..NODES + ARCS).step_by(2), FORBIDDEN)
+    sheet.with_marks((2 * NODES..NODES + ARCS).step_by(2), FORBIDDEN)
 }
 
-/// The least length through all required nodes, or with none of them from source to target.
+/// The least length through all required items, or with none of them from source to target.
 fn least(sheet: &Sheet) -> u32 {
     let read = reference::Sheet::read(&sheet.bytes()).expect("a good sheet");
-    reference::least(&read, &read.required_nodes()).expect("a walk") as u32
+    reference::least(&read, &read.required_items).expect("a walk") as u32
 }
 
 /// Sheets with the first number of the slip that the pass writes for them.
@@ -57,20 +58,25 @@ fn sheets() -> Vec<(Sheet, u8)> {
     let eight = demanding(&plain);
     let closed = half_closed(&eight);
     let between = (least(&eight) + least(&closed)) / 2;
+    let arcs = driven(&plain);
+    let arcs_closed = half_closed(&arcs);
     let last_mandatory = NODES + ARCS - 1;
     let tight = half_closed(&plain);
     vec![
         (eight.with_limit(least(&eight)), 0),
         (closed.with_limit(least(&closed)), 0),
         (tight.with_limit(least(&tight)), 0),
-        (marked(&plain, 0..NODES + ARCS, FORBIDDEN).with_limit(least(&plain)), 1),
+        (plain.with_marks(0..NODES + ARCS, FORBIDDEN).with_limit(least(&plain)), 1),
         (closed.with_limit(least(&half_closed(&plain)) - 1), 1),
         (plain.with_mark(last_mandatory, MANDATORY).with_limit(least(&plain)), 2),
         (closed.with_limit(between), 3),
         (closed.with_limit(least(&eight) - 1), 3),
+        (arcs.with_limit(least(&arcs)), 0),
+        (arcs_closed.with_limit((least(&arcs) + least(&arcs_closed)) / 2), 3),
+        (arcs_closed.with_limit(least(&arcs) - 1), 3),
         (longest(), 0),
         (demanding(&longest()).with_limit(1_000_000), 2),
-        (marked(&longest(), NODES..NODES + ARCS, FORBIDDEN), 1),
+        (longest().with_marks(NODES..NODES + ARCS, FORBIDDEN), 1),
     ]
 }
 

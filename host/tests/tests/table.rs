@@ -1,13 +1,13 @@
-//! The library on the lines of document 01, 'The sheet B and what it gives', byte by byte. Every call is held to the reference as well.
+//! The library on the lines of document 01, 'The sheet B and what it gives', and on those of request 2.3, byte by byte. Every call is held to the reference as well.
 
-use cases::{formats, sheet_b, starred, with_required, Line, FORBIDDEN, MANDATORY};
+use cases::{checks, driven, formats, sheet_b, starred, with_required, Line, FORBIDDEN, MANDATORY};
 use tests::{Call, Desk, REFUSED};
 use ways::{SLIP_BYTES, WORK_BYTES};
 
 #[test]
 fn the_table_of_b() {
     let mut desk = Desk::new(1);
-    for Line { sheet, item, slip } in starred() {
+    for Line { sheet, item, slip } in starred().into_iter().chain(driven()) {
         let written = match item {
             None => desk.pass(&sheet.bytes()),
             Some(item) => desk.reason(&sheet.bytes(), item),
@@ -27,6 +27,18 @@ fn what_formats_decide() {
     let mut desk = Desk::new(2);
     for (bytes, slip, refused) in formats() {
         assert_eq!(desk.call(Call::Pass(slip), &bytes, WORK_BYTES) / REFUSED, refused, "{bytes:?}");
+    }
+}
+
+#[test]
+fn checks_of_a_3() {
+    let mut desk = Desk::new(4);
+    for (sheet, slip, yes) in checks() {
+        assert_eq!(desk.check(&sheet.bytes(), slip), yes.into(), "{sheet:?} {slip:?}");
+    }
+    let bytes = sheet_b().with_limit(14).with_marks([1, 6], MANDATORY).bytes();
+    for slip in [&[3, 0, 0][..], &[3, 1, 9, 0], &[3, 2, 6, 1, 0], &[3, 2, 6, 6, 0], &[3, 9, 0, 1, 2, 3, 4, 5, 6, 7, 8, 0]] {
+        assert_eq!(desk.check(&bytes, slip), 18 * REFUSED, "{slip:?}");
     }
 }
 

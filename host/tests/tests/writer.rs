@@ -1,6 +1,6 @@
 //! The writer beside the reference: good drafts and faulty ones, every bound and one over, room exact and one byte less.
 
-use cases::{draw, formats, sheet_b, spoiled, starred, with_required, Draft, Kind, Random, Sheet, FORBIDDEN, KINDS, MANDATORY};
+use cases::{draw, driven, eight_and_nine, formats, sheet_b, spoiled, starred, with_required, Draft, Kind, Random, Sheet, KINDS};
 use tests::{Guarded, WritingDesk, REFUSED};
 
 /// Writes a draft of a good sheet with just enough room, with one byte less, and with more.
@@ -30,8 +30,8 @@ fn sheets_written_again() {
         }
     }
     println!("{written} sheets written again");
-    assert!(written > 7_000);
-    for line in starred() {
+    assert!(written > 8_000);
+    for line in starred().into_iter().chain(driven()) {
         try_rooms(&mut desk, &Draft::of(&line.sheet), &line.sheet.bytes());
     }
     for bytes in formats().into_iter().filter(|(_, slip, refusal)| *slip == 1_200 && *refusal == 0).map(|(bytes, ..)| bytes) {
@@ -131,24 +131,19 @@ fn the_first_fault_decides() {
     let mut arc_before_mark = b.clone();
     (arc_before_mark.arcs[14], arc_before_mark.marks[0]) = (65_536, 3);
     refused(&arc_before_mark, 0, 10);
-    let mut mark_before_stops = Draft::of(&with_required(9));
-    mark_before_stops.marks[10] = 3;
-    refused(&mark_before_stops, 0, 11);
+    let mut mark_before_count = Draft::of(&with_required(9));
+    mark_before_count.marks[10] = 3;
+    refused(&mark_before_count, 0, 11);
     refused(&Draft::of(&with_required(9)), 0, 13);
     refused(&Draft::of(&with_required(8)), 0, 19);
 }
 
-/// Stops counted by nodes and by arcs' ends, source, target and forbidden ones among them.
 #[test]
-fn eight_and_nine_stops() {
+fn eight_and_nine_required() {
     let mut desk = WritingDesk::new(6);
-    let arcs: Vec<[u32; 3]> = (0..15).map(|node| [node, node + 1, 1]).collect();
-    let plain = Sheet::new(16, 0, 15, 30, &arcs);
-    let demanding = |items: &[usize]| items.iter().fold(plain.clone(), |sheet, &item| sheet.with_mark(item, MANDATORY));
-    let eight = [demanding(&[0, 1, 2, 3, 4, 5, 6, 7, 8, 15]), demanding(&[17, 19, 21, 23]), demanding(&[17, 19, 21, 23]).with_mark(2, FORBIDDEN)];
-    for sheet in &eight {
-        assert_eq!(refusal(&mut desk, &Draft::of(sheet), 200), 0);
-        assert_eq!(refusal(&mut desk, &Draft::of(&sheet.with_mark(10, MANDATORY)), 200), 13);
+    for [eight, nine] in eight_and_nine() {
+        assert_eq!(refusal(&mut desk, &Draft::of(&eight), 200), 0);
+        assert_eq!(refusal(&mut desk, &Draft::of(&nine), 200), 13);
     }
 }
 

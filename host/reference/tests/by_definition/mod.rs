@@ -1,14 +1,15 @@
-//! Pass, reason and check as document 01 defines them, each closure and each item tried anew, over any test whether a walk fits.
+//! Pass, reason and check as document 01 and request 2.3 define them, each closure and each item tried anew, over any test whether a walk fits.
 
 use cases::{numbers, Sheet, Slip, FORBIDDEN, MANDATORY, OPEN};
 use reference::{check, pass, reason, SLIP_BYTES, WORK_BYTES};
 
 const REFUSED: u32 = 65_536;
+const MOST_REQUIRED: usize = 8;
 
 /// Some walk of the sheet from source to target, clear of the closed items, meets the goals within the limit.
 pub type Fits = fn(sheet: &Sheet, closed: &[bool], goals: &[usize]) -> bool;
 
-fn forbidden(sheet: &Sheet) -> Vec<bool> {
+pub fn forbidden(sheet: &Sheet) -> Vec<bool> {
     sheet.marks.iter().map(|&mark| mark == FORBIDDEN).collect()
 }
 
@@ -17,9 +18,14 @@ fn is_end_of_mandatory(sheet: &Sheet, node: usize) -> bool {
     arcs.any(|(arc, &mark)| mark == MANDATORY && (arc[0] as usize == node || arc[1] as usize == node))
 }
 
-pub fn required(sheet: &Sheet) -> Vec<usize> {
-    let ends = [sheet.source as usize, sheet.target as usize];
-    (0..sheet.nodes as usize).filter(|node| !ends.contains(node) && (sheet.marks[*node] == MANDATORY || is_end_of_mandatory(sheet, *node))).collect()
+fn is_required(sheet: &Sheet, item: usize) -> bool {
+    let is_end_of_walk = item == sheet.source as usize || item == sheet.target as usize;
+    let is_arc = item >= sheet.nodes as usize;
+    sheet.marks[item] == MANDATORY && (is_arc || !is_end_of_walk && !is_end_of_mandatory(sheet, item))
+}
+
+pub fn required_items(sheet: &Sheet) -> Vec<usize> {
+    (0..sheet.marks.len()).filter(|&item| is_required(sheet, item)).collect()
 }
 
 fn verdict(sheet: &Sheet, fits: Fits) -> (u32, Vec<usize>) {
@@ -31,9 +37,9 @@ fn verdict(sheet: &Sheet, fits: Fits) -> (u32, Vec<usize>) {
     if let Some(item) = unmet {
         return (2, vec![item]);
     }
-    let stops = required(sheet);
-    if !fits(sheet, &closed, &stops) {
-        return (3, stops);
+    let required = required_items(sheet);
+    if !fits(sheet, &closed, &required) {
+        return (3, required);
     }
     (0, vec![])
 }
@@ -68,13 +74,16 @@ fn new_mark(sheet: &Sheet, fits: Fits, item: usize) -> u32 {
     }
 }
 
-fn pass_slip(sheet: &Sheet, fits: Fits) -> Vec<u8> {
+fn pass_slip(sheet: &Sheet, fits: Fits) -> Result<Vec<u8>, u32> {
+    if required_items(sheet).len() > MOST_REQUIRED {
+        return Err(13 * REFUSED);
+    }
     let (verdict, goals) = verdict(sheet, fits);
     if verdict > 0 {
-        return slip(verdict, &goals, &reasons(sheet, fits, &goals));
+        return Ok(slip(verdict, &goals, &reasons(sheet, fits, &goals)));
     }
     let marks = (0..sheet.marks.len()).map(|item| new_mark(sheet, fits, item));
-    numbers(&[0].into_iter().chain(marks).collect::<Vec<_>>())
+    Ok(numbers(&[0].into_iter().chain(marks).collect::<Vec<_>>()))
 }
 
 fn reason_slip(sheet: &Sheet, fits: Fits, passed: &[u8], item: usize) -> Result<Vec<u8>, u32> {
@@ -92,7 +101,11 @@ pub struct Counts {
     pub verdicts: [usize; 4],
     /// slips by first number that list a closure
     pub with_reasons: [usize; 5],
+    /// slips of a verdict 3 that have an arc among their goals
+    pub with_arcs: usize,
     pub pruned: usize,
+    /// sheets with too many required items
+    pub refused: usize,
 }
 
 /// The reference, held to the definitions.
@@ -108,14 +121,19 @@ impl Trial {
         Trial { fits, work: vec![0; WORK_BYTES], slip: vec![0; SLIP_BYTES], counts: Counts::default() }
     }
 
-    /// Tries pass, and gives its slip.
-    pub fn pass(&mut self, sheet: &Sheet) -> Vec<u8> {
+    /// Tries pass, and gives its slip; none where it is refused.
+    pub fn pass(&mut self, sheet: &Sheet) -> Option<Vec<u8>> {
         let number = pass(&sheet.bytes(), &mut self.work, &mut self.slip);
-        let passed = self.finished(number).expect("a good sheet");
-        assert_eq!(passed, pass_slip(sheet, self.fits), "{sheet:?}");
-        self.counts.verdicts[usize::from(passed[0])] += 1;
-        self.note_reasons(&passed);
-        passed
+        let answer = self.finished(number);
+        assert_eq!(answer, pass_slip(sheet, self.fits), "{sheet:?}");
+        match &answer {
+            Ok(passed) => {
+                self.counts.verdicts[usize::from(passed[0])] += 1;
+                self.note(sheet, passed);
+            }
+            Err(_) => self.counts.refused += 1,
+        }
+        answer.ok()
     }
 
     /// Tries reason, after the pass gave its slip.
@@ -125,19 +143,19 @@ impl Trial {
         assert_eq!(answer, reason_slip(sheet, self.fits, passed, item), "{sheet:?} {item}");
         if let Ok(slip) = answer {
             self.counts.pruned += 1;
-            self.note_reasons(&slip);
+            self.note(sheet, &slip);
         }
     }
 
     /// Tries check on a slip whose reasons are forbidden items and whose goals are well formed, and gives the answer.
     pub fn check(&mut self, sheet: &Sheet, first: u32, goals: &[usize], listed: &[usize]) -> bool {
-        let marked = match first {
-            2 => sheet.marks[goals[0]] == MANDATORY,
-            4 => sheet.marks[goals[0]] == OPEN,
-            _ => true,
+        let is_goal = |goal: &usize| match first {
+            2 => sheet.marks[*goal] == MANDATORY,
+            3 => is_required(sheet, *goal),
+            _ => sheet.marks[*goal] == OPEN,
         };
         let closed: Vec<bool> = (0..sheet.marks.len()).map(|item| listed.contains(&item)).collect();
-        let expected = marked && !(self.fits)(sheet, &closed, goals);
+        let expected = goals.iter().all(is_goal) && !(self.fits)(sheet, &closed, goals);
         let answer = check(&sheet.bytes(), &mut self.work, &slip(first, goals, listed));
         assert_eq!(answer, u32::from(expected), "{sheet:?} {first} {goals:?} {listed:?}");
         expected
@@ -151,9 +169,10 @@ impl Trial {
         }
     }
 
-    fn note_reasons(&mut self, bytes: &[u8]) {
-        if Slip::written(bytes).is_some_and(|slip| !slip.reasons.is_empty()) {
-            self.counts.with_reasons[usize::from(bytes[0])] += 1;
+    fn note(&mut self, sheet: &Sheet, bytes: &[u8]) {
+        if let Some(slip) = Slip::written(bytes) {
+            self.counts.with_reasons[slip.first as usize] += usize::from(!slip.reasons.is_empty());
+            self.counts.with_arcs += usize::from(slip.first == 3 && slip.goals.iter().any(|&goal| goal >= sheet.nodes));
         }
     }
 }
