@@ -486,7 +486,7 @@ fn unwritten_sheets() {
     );
 }
 
-// Legs that are judged one by one, and too many counted stops.
+// Legs that are judged one by one, and too many counted items.
 fn unwritten_legs() {
     let marks = [0u8; 9];
     let slow_first = [0u32, 1, 65536, 9, 3, 4, 0, 2, 3, 2, 3, 9, 1, 2, 1];

@@ -8,7 +8,7 @@ use native.Mathlib.Omega.{arith}
 use lib.ListN.{length, List·getD-eq-default}
 use lib.Dec.{eqb, ltb}
 use borrow.Author.Tests.{eqb-true, eq-eqb, ltb-true, ltb-false, lt-ltb, le-ltb}
-use Rattle.lists.proofs.AscendLaws.{keep-ascends, span-member, member-span}
+use Rattle.lists.proofs.AscendLaws.{keep-ascends, keep-none, span-member, member-span}
 use Rattle.lists.proofs.MemberLaws.{member-head, member-tail, member-cases, member-none, keep-member, member-keep}
 use Rattle.lists.proofs.Pigeonhole.{Below, below-all}
 use Rattle.lists.proofs.TestLaws.{and-true, true-and, or-true, or-of, true-or, not-true, true-of, false-of}
@@ -122,6 +122,11 @@ required-below S = below-all (itemCount (S .graph)) (required S) (λ i m. requir
 
 pub required-mandatory : (S : Sheet) (i : ℕ) → member i (required S) ≡ true → isMandatory S i ≡ true
 required-mandatory S i m = required-is S i m .mandatory
+
+-- with no mark of 1 nothing is required
+pub unmarked : (S : Sheet) → ((i : ℕ) → isMandatory S i ≡ false) → required S ≡ []
+unfolding required allItems isRequired
+unmarked S h = keep-none (isRequired S) (itemCount (S .graph)) 0 (λ j l g. rw (h j))
 
 -- an item is open, mandatory or forbidden by its mark
 pub open-mark : (S : Sheet) (i : ℕ) → (isOpen S i ≡ true) ↔ (markOf S i ≡ 0)

@@ -11,12 +11,12 @@ use borrow.Author.Tests.{eqb-true}
 use Rattle.lists.specs.Lists.{pick}
 use Rattle.lists.proofs.Pigeonhole.{Below}
 use Rattle.lists.proofs.FrontLaws.{zeros-at}
-use Rattle.lists.proofs.AscendLaws.{keep-none}
 use Rattle.lists.proofs.RowLaws.{rows-append}
 use Rattle.varint.proofs.WriteLaws.{numbers-rows, number-short}
 use Rattle.varint.specs.Varint.{got, writeGroups, writeNumber, writeNumbers}
-use Rattle.walks.specs.Graph.{Arc, itemCount}
+use Rattle.walks.specs.Graph.{Arc}
 use Rattle.walks.specs.Flat.{arcsOf, flat}
+use Rattle.sheet.proofs.MarkLaws.{unmarked}
 use Rattle.sheet.proofs.FaultLaws.{draft-low}
 use Rattle.sheet.proofs.SheetLaws.{taken-got, taken-good}
 use Rattle.sheet.proofs.WriterLaws.{written-again, faultless-taken, faultless-good}
@@ -24,7 +24,7 @@ use Rattle.sheet.specs.Answer.{finished, refused, wrote, fitted}
 use Rattle.sheet.specs.Draft.{headerNumbers, sheetNumbers, sheetBytes, Draft, sheetDraft, draftSheet}
 use Rattle.sheet.specs.Good.{Good, GoodArc, All}
 use Rattle.sheet.specs.Reader.{taken}
-use Rattle.sheet.specs.Sheet.{Sheet, headerOf, markOf, isMandatory, isRequired, required, allItems}
+use Rattle.sheet.specs.Sheet.{Sheet, headerOf, markOf, isMandatory}
 use Rattle.sheet.specs.Writer.{fault, firstOf, headerFault, sizeFault, arcFault, arcsFault, marksFault, requiredFault, draftFault, writeOn, sheetWritten}
 
 arcs-short : (n : ℕ) → n ≤ 64 → (xs : List Arc) → All (GoodArc n) xs → length (writeNumbers (flat xs)) ≤ 5 * length xs
@@ -76,11 +76,6 @@ written-size d out = go (eqb (draftFault d) 0) refl (leb (length (sheetBytes (dr
     go true e true = (omega arith, sheet-size (draftSheet d) (faultless-good d (eqb-true _ 0 e)))
     go true e false = (omega arith, omega arith)
     go false e u = (omega (arith, draft-low d), omega arith)
-
--- with no mark of 1 nothing is required
-unmarked : (S : Sheet) → ((i : ℕ) → isMandatory S i ≡ false) → required S ≡ []
-unfolding required allItems isRequired
-unmarked S h = keep-none (isRequired S) (itemCount (S .graph)) 0 (λ j l g. rw (h j))
 
 -- a longest sheet: 64 nodes, 512 arcs of 65,535 minutes, a limit of 1,000,000
 longest : Sheet

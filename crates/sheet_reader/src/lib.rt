@@ -13,7 +13,6 @@ ghost use Rattle.sheet_reader.specs.Answer.{arcsBehind, marksBehind, ans
 use numbers::SectionRead;
 use sheet::Header;
 use sheet_parts::HeaderRead;
-use walks::GOALS;
 
 // Whether at most eight items are required; the arcs' numbers and the marks stand in front.
 fn few_required(header: Header, arcs: &[u32], marks: &[u8]) -> bool
@@ -23,8 +22,7 @@ fn few_required(header: Header, arcs: &[u32], marks: &[u8]) -> bool
 {
     let numbers = 3 * header.arcs;
     let items = header.nodes + header.arcs;
-    let mut list = [0usize; GOALS];
-    sheet_required::required_items(header, &arcs[..numbers], &marks[..items], &mut list) <= GOALS
+    sheet_required::few(header, &arcs[..numbers], &marks[..items])
 }
 
 // A sheet that was taken, by the five numbers in front of it, or the refusal, 3 to 13.

@@ -8,17 +8,19 @@ use mathlib.Core.Bool.{Bool, true, false, not, _&&_, _||_}
 use native.Mathlib.Omega.{arith}
 use native.Mathlib.Numerals.{add-one}
 use lib.Dec.{eqb, ltb}
-use lib.ListN.{length, getD, set, take, replicate, getD-replicate, length-append, length-set, length-take}
+use lib.ListN.{length, getD, set, take, drop, drop-of-length-le, replicate, List·getD-eq-default, getD-replicate, length-append, length-set, length-take}
 use lib.Seq.{getD-set-same, getD-set-other, set-out, take-all, take-nil, take-append-le}
 use borrow.Author.Tests.{eqb-true, eqb-false, eq-eqb, ne-eqb, ltb-true, ltb-false, lt-ltb}
-use Rattle.lists.specs.Lists.{front, add, keep, span}
+use Rattle.lists.specs.Lists.{front, member, add, keep, span}
+use Rattle.lists.proofs.MemberLaws.{member-away}
+use Rattle.lists.proofs.TestedLaws.{entry-at}
 use Rattle.lists.proofs.FrontLaws.{length-front, push}
 use Rattle.walks.specs.Graph.{Arc, noArc, tailOf, headOf, arcItem}
 use Rattle.walks.specs.Flat.{arcsOf}
 use Rattle.walks.proofs.FlatLaws.{arc-at, arcs-many}
 use Rattle.sheet.specs.declared.Header.{Header}
-use Rattle.sheet.proofs.MarkLaws.{arc-free}
-use Rattle.sheet.specs.Sheet.{Sheet, markOf, isMandatory, isForced, endsMandatory, allArcs, isRequired, sheetOf, Sized}
+use Rattle.sheet.proofs.MarkLaws.{arc-free, unmarked}
+use Rattle.sheet.specs.Sheet.{Sheet, markOf, isMandatory, isForced, endsMandatory, allArcs, isRequired, required, sheetOf, Sized}
 use Rattle.sheet_required.specs.Whole.{ForcedNodes, FirstArc, RoomListed}
 
 -- a mark of 1 that is set at i, seen from p
@@ -45,6 +47,10 @@ either-end false false d = refl
 or-assoc : (a b c : Bool) → (a || (b || c)) ≡ ((a || b) || c)
 or-assoc true b c = refl
 or-assoc false b c = refl
+
+none-or : (a : Bool) → (a || false) ≡ a
+none-or true = refl
+none-or false = refl
 
 module _ (h : Header) (xs ms : List ℕ) where
   abbrev S : Sheet
@@ -73,10 +79,6 @@ module _ (h : Header) (xs ms : List ℕ) where
         there = λ l. absurd (omega arith);
       }
     where
-      none-or : (a : Bool) → (a || false) ≡ a
-      none-or true = refl
-      none-or false = refl
-
       marked : (p : ℕ) → p < 64 → eqb (getD (set (set (replicate 64 0) (h .source) 1) (h .target) 1) p 0) 1 ≡ (eqb (h .target) p || eqb (h .source) p)
       marked p l =
           set-one (set (replicate 64 0) (h .source) 1) (h .target) p (rw length-set l)
@@ -260,3 +262,27 @@ arcs-begun S {n} {old} {out} {count} {i} {first} F e w q =
     let z : S .graph .nodes + (j - S .graph .nodes) ≡ j = omega arith in
     let m : isMandatory S j ≡ false = rw (← z) (F .none (j - S .graph .nodes) (omega arith)) in
     rw m)
+
+-- the mark of 1 was found among the first i, or is looked for among the others
+pub found-more : (xs : List ℕ) (i : ℕ) (t : Bool) → member 1 xs ≡ (t || member 1 (drop i xs)) → i < length xs
+    → member 1 xs ≡ ((t || eqb (getD xs i 0) 1) || member 1 (drop (i + 1) xs))
+unfolding member
+found-more xs i t e h = e ∙ ap (λ (ys : List ℕ). t || member 1 ys) (entry-at xs i h) ∙ rw (eqb-sym 1 (getD xs i 0)) (or-assoc t (eqb (getD xs i 0) 1) (member 1 (drop (i + 1) xs)))
+
+pub found-all : (xs : List ℕ) (i : ℕ) (t : Bool) → member 1 xs ≡ (t || member 1 (drop i xs)) → length xs ≤ i → t ≡ member 1 xs
+unfolding member
+found-all xs i t e h = sym (e ∙ ap (λ (ys : List ℕ). t || member 1 ys) (drop-of-length-le xs h) ∙ none-or t)
+
+-- with no mark of 1 nothing is required
+pub none-required : (S : Sheet) (list : List ℕ) → member 1 (S .marks) ≡ false → RoomListed (required S) list list 0
+unfolding isMandatory markOf
+none-required S list e =
+    let z : required S ≡ [] = unmarked S (λ i. ne-eqb (getD (S .marks) i 0) 1 (λ q. never i q)) in
+    rw z (record { counted = refl; written = rw (take-nil {A = ℕ} (length list)) })
+  where
+    never : (i : ℕ) → getD (S .marks) i 0 ≡ 1 → ⊥
+    never i q = go (ltb i (length (S .marks))) refl
+      where
+        go : (t : Bool) → ltb i (length (S .marks)) ≡ t → ⊥
+        go true l = member-away 1 (S .marks) e i (ltb-true i (length (S .marks)) l) q
+        go false l = omega (arith, q, List·getD-eq-default (S .marks) 0 (ltb-false i (length (S .marks)) l))

@@ -2,11 +2,13 @@
 ghost use mathlib.Core.Path.{_≡_};
 ghost use mathlib.Core.Bool.{not, _&&_};
 ghost use Prim.Native.Nat.{_+_, _*_, _≤_, _<_};
-ghost use lib.ListN.{replicate, set};
-ghost use lib.Dec.{eqb};
+ghost use lib.ListN.{length, replicate, set};
+ghost use lib.Dec.{eqb, leb};
+ghost use Rattle.lists.specs.Lists.{member};
 ghost use Rattle.sheet.specs.Sheet.{required, sheetOf, Sized};
 ghost use Rattle.sheet_required.specs.Whole.{ForcedNodes, FirstArc, RoomListed};
 use sheet::Header;
+use walks::GOALS;
 use walks::MANDATORY;
 use walks::NODES;
 
@@ -71,6 +73,19 @@ fn note_item(list: &mut [usize], count: usize, item: usize) -> usize
     found
 }
 
+// Whether some mark is mandatory. It looks at all of them: the machine then takes many at a time.
+fn some_mandatory(marks: &[u8]) -> bool
+    ensures { λ r. ⌜ r ≡ member 1 (now (marks .entry)) ⌝ }
+{
+    let mut found = false;
+    let mut i: usize = 0;
+    while i < marks.len() {
+        found |= marks[i] == MANDATORY;
+        i += 1;
+    }
+    found
+}
+
 // Gives how many required items there are (document 02, 2.3: counted things) and writes as many of them, ascending, over the front of `list` as it has
 // room for.
 pub fn required_items(header: Header, arcs: &[u32], marks: &[u8], list: &mut [usize]) -> usize
@@ -78,6 +93,9 @@ pub fn required_items(header: Header, arcs: &[u32], marks: &[u8], list: &mut [us
     ensures { λ r. let S = sheetOf header (now (arcs .entry)) (now (marks .entry)) in
         ⌜ RoomListed (required S) (now (list .entry)) (now (list .exit)) r ⌝ }
 {
+    if !some_mandatory(marks) {
+        return 0;
+    }
     let mut forced = [0u8; NODES];
     let first = force_nodes(header, arcs, marks, &mut forced);
     let mut count: usize = 0;
@@ -96,4 +114,13 @@ pub fn required_items(header: Header, arcs: &[u32], marks: &[u8], list: &mut [us
         j += 1;
     }
     count
+}
+
+// Whether at most eight items are required.
+pub fn few(header: Header, arcs: &[u32], marks: &[u8]) -> bool
+    requires { ⌜ Sized header (now arcs) (now marks) × (header .nodes ≤ 64) × (header .arcs ≤ 512) ⌝ }
+    ensures { λ r. ⌜ r ≡ leb (length (required (sheetOf header (now (arcs .entry)) (now (marks .entry))))) 8 ⌝ }
+{
+    let mut list = [0usize; 0];
+    required_items(header, arcs, marks, &mut list) <= GOALS
 }

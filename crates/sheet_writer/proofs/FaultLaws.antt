@@ -169,14 +169,6 @@ module _ (xs : List ℕ) (i : ℕ) (e : marksFault xs ≡ marksFault (drop i xs)
     pub marks-more : getD xs i 0 ≤ 2 → marksFault xs ≡ marksFault (drop (i + 1) xs)
     marks-more l = next-mark ∙ sym (on 11 _ (le-leb (getD xs i 0) 2 l) refl)
 
--- the count of the required items
-module _ {n k : ℕ} (e : n ≡ k) where
-  pub over-eight : 8 < n → 13 ≡ fault 13 (leb k 8)
-  over-eight l = fails 13 (lt-leb k 8 (omega arith))
-
-  pub within-eight : n ≤ 8 → 0 ≡ fault 13 (leb k 8)
-  within-eight l = sym (passes 13 (le-leb k 8 (omega arith)))
-
 -- the whole draft: each part is judged where those before it have no fault
 module _ (h : Header) (arcs marks : List ℕ) where
   pub in-header : {r : ℕ} → r ≡ headerFault h → (r ≡ 0 → ⊥) → r ≡ draftFault (draftOf h arcs marks)

@@ -14,7 +14,6 @@ use sheet::LIMIT_END;
 use sheet::MINUTES_END;
 use walks::ARCS;
 use walks::FORBIDDEN;
-use walks::GOALS;
 use walks::NODES;
 use work::Answer;
 
@@ -104,11 +103,10 @@ fn required_fault(header: Header, arcs: &[u32], marks: &[u8]) -> u32
     requires { ⌜ Sized header (now arcs) (now marks) × (header .nodes ≤ 64) × (header .arcs ≤ 512) ⌝ }
     ensures { λ r. ⌜ r ≡ requiredFault (draftOf header (now (arcs .entry)) (now (marks .entry))) ⌝ }
 {
-    let mut list = [0usize; GOALS];
-    if GOALS < sheet_required::required_items(header, arcs, marks, &mut list) {
-        return 13;
+    if sheet_required::few(header, arcs, marks) {
+        return 0;
     }
-    0
+    13
 }
 
 // The first fault of a draft in the order of a sheet: 5 to 8, then 3 for a list of another length than the header says, then 9 to 13. The lengths are

@@ -1,17 +1,16 @@
 //! A second implementation of pass, reason, check and the writer, written from document 01 and requests 2.1 and 2.3, to hold the proved library to. Points that
 //! these leave open are settled as docs/DECISIONS.md has them, so a fault there would be in both.
 //!
-//! It shares no code with the library. What differs: the library relaxes rows of lengths by sweeps over the arcs up to the limit, and puts rows back where an opening is
-//! not kept. Here
+//! It shares no code with the library. What differs: the library holds lengths up to the limit alone, and puts rows of them back where an opening is not kept. Here
 //!
-//! - lengths come from Dijkstra's algorithm over linked lists of arcs, the frontier being a set of nodes held in one 64-bit mark; they are whole 64-bit numbers
-//!   that know no limit;
+//! - lengths are whole 64-bit numbers that know no limit;
 //! - the list of reasons never undoes anything. With the lengths *from* each goal and *to* each goal, the pairs that an opening would give follow from the lengths
 //!   at the opened item: only an item that stays open is put into the graph, and the lengths are mended from there;
 //! - the writer judges nothing: it writes the numbers and has the reader judge the bytes.
 //!
-//! What is alike: both fill a table over sets of goals and the goal reached last (Algorithm 1 of source document 002). The reference's own tests do without it: they
-//! try every walk of small sheets, and every order of the goals on large ones.
+//! What is alike: both find lengths by Dijkstra's algorithm over chains of arcs, the frontier being a set of nodes held in one 64-bit mark, and fill a table over sets of
+//! goals and the goal reached last (Algorithm 1 of source document 002). The reference's own tests do without either: they try every walk of small sheets, and every
+//! order of the goals on large ones.
 //!
 //! The words are those of docs/GLOSSARY.md: node, arc, source, target, open, mandatory, forbidden, required.
 
