@@ -25,7 +25,8 @@ least-few-arcs G closed goals a b k e =
     let v = short-fit G closed goals a b (L .attained .0) (L .attained .1) in
     (v .0, v .1, omega (arith, L .lower (v .0) (v .1), v .2, L .attained .2), v .3)
 
--- At most 64 nodes, eight goals and weights of at most 65,535: some shortest walk has at most 575 arcs, and its length is at most 37,682,625.
+-- At most 64 nodes, eight goals, be they nodes or arcs, and weights of at most 65,535: some shortest walk has at most 575 arcs, and its length is at most
+-- 37,682,625.
 pub least-bound : (G : Graph) (closed : ℕ → Bool) (goals : List ℕ) (a b k : ℕ) → ((l : ℕ) → l < length (G .arcs) → weightOf G l ≤ 65535)
     → G .nodes ≤ 64 → length goals ≤ 8 → least G closed goals a b ≡ some k
     → ((w : List ℕ) × (fit G closed goals a b w ≡ true) × (len G w ≡ k) × (length w ≤ 575)) × (k ≤ 37682625)
