@@ -8,7 +8,6 @@ use mathlib.Core.List.{List, [], _∷_}
 use native.Mathlib.Omega.{arith}
 use lib.ListN.{length}
 use Rattle.lists.proofs.MemberLaws.{member-none}
-use Rattle.lists.proofs.TestLaws.{true-of}
 use Rattle.sheet.proofs.MarkLaws.{forced-is, is-forced}
 use Rattle.sheet.proofs.SlipLaws.{slip-back}
 use Rattle.sheet.specs.Good.{Good}
@@ -27,18 +26,13 @@ use Rattle.pass_rules.specs.Accepted.{accepted}
 use Rattle.sheet.specs.Answer.{finished}
 use Rattle.pass_rules.specs.Pass.{passOn, verdictIn, markIn, marksIn, Refuses}
 use Rattle.pass_rules.specs.Route.{Route, mandatory, marked}
-use Rattle.pass_rules.specs.Verdict.{fitsSheet, verdict, newMark, slipFor, passSlip, Verdict, newMarks}
+use Rattle.pass_rules.specs.Verdict.{verdict, newMark, slipFor, passSlip, Verdict, newMarks}
 
 -- the round is refused when a walk is missing for one mandatory item, or for all mandatory items together
 abbrev pub Refusal : Sheet → Type 0
 Refusal S =
     ((i : ℕ) × (i < itemCount (S .graph)) × (isMandatory S i ≡ true) × NoWalkOn S (i ∷ []))
     ⊎ NoWalkOn S (mandatory S)
-
--- where some walk meets all required items, some walk meets all mandatory ones
-pub mandatory-met : (S : Sheet) → fitsSheet S (required S) ≡ true → fitsSheet S (mandatory S) ≡ true
-mandatory-met S e =
-    true-of (fitsSheet S (mandatory S)) (λ q. true≢false (sym e ∙ no-walk S (required S) .1 (all-missing S .0 (no-walk S (mandatory S) .0 q))))
 
 -- where the verdict is not 0, a walk is missing, and the other way
 refusal-is : (S : Sheet) → (verdict S .number ≡ 0 → ⊥) → Refusal S

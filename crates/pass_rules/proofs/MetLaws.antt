@@ -1,14 +1,14 @@
 -- A walk that meets the mandatory arcs meets source, target and the ends of these arcs; so meeting all required items is meeting all mandatory ones.
 -- Assumes nothing.
 use Prim.Native.Nat.{ℕ, _<_}
-use mathlib.Core.Path.{_≡_}
+use mathlib.Core.Path.{_≡_, sym, _∙_}
 use mathlib.Core.Logic.{_⊎_, inl, inr, _↔_}
 use mathlib.Core.Bool.{true, false, true≢false}
 use mathlib.Core.List.{List, [], _∷_}
 use native.Mathlib.Omega.{arith}
 use lib.ListN.{length}
 use Rattle.lists.proofs.MemberLaws.{keep-member, member-keep}
-use Rattle.lists.proofs.TestLaws.{true-or-false}
+use Rattle.lists.proofs.TestLaws.{true-of, true-or-false}
 use Rattle.lists.specs.Lists.{member}
 use Rattle.sheet.proofs.MarkLaws.{is-item, item-is, forced-is, is-forced, arc-free, required-is, is-required}
 use Rattle.sheet.proofs.SheetLaws.{good-tail, good-head}
@@ -18,7 +18,7 @@ use Rattle.walks.proofs.Join.{meets-all, meets-at, end-met, first-item, last-it
 use Rattle.walks.proofs.LeastLaw.{fit-walk, walk-fit}
 use Rattle.walks.specs.Graph.{itemCount, arcItem, items, meets, fit}
 use Rattle.walks.specs.Walk.{Walk}
-use Rattle.pass_rules.proofs.VerdictLaws.{NoWalkOn, some-walk, one-fits, Stands}
+use Rattle.pass_rules.proofs.VerdictLaws.{NoWalkOn, no-walk, some-walk, one-fits, Stands}
 use Rattle.pass_rules.specs.Route.{mandatory}
 use Rattle.pass_rules.specs.Verdict.{fitsSheet}
 
@@ -80,6 +80,10 @@ all-missing S = (λ n w e. n w (more w e), λ n w e. n w (fewer w e))
     fewer w e =
         let f = fit-walk (S .graph) (isForbidden S) (mandatory S) (S .target) (S .source) w e in
         walk-fit (S .graph) (isForbidden S) (required S) (S .target) (S .source) w (f .0) (all-met S w (f .0) .1 (f .1))
+
+pub all-fits : (S : Sheet) → fitsSheet S (required S) ≡ true → fitsSheet S (mandatory S) ≡ true
+all-fits S e =
+    true-of (fitsSheet S (mandatory S)) (λ q. true≢false (sym e ∙ no-walk S (required S) .1 (all-missing S .0 (no-walk S (mandatory S) .0 q))))
 
 -- where the verdict is 0, some walk meets each forced node
 pub forced-fits : (S : Sheet) → Stands S → (p : ℕ) → Forced S p → fitsSheet S (p ∷ []) ≡ true

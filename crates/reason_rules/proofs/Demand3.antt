@@ -21,8 +21,8 @@ use Rattle.sheet.specs.Sheet.{Sheet, isMandatory, isForbidden, isOpen, markOf}
 use Rattle.sheet.specs.Slip.{Slip}
 use Rattle.varint.specs.Varint.{got}
 use Rattle.pass_rules.proofs.AcceptedLaws.{accepted-good}
-use Rattle.pass_rules.proofs.Demand2.{mandatory-met, verdict-in, marks-exact, refuses-is, is-refused}
-use Rattle.pass_rules.proofs.MetLaws.{is-mandatory-item}
+use Rattle.pass_rules.proofs.Demand2.{verdict-in, marks-exact, refuses-is, is-refused}
+use Rattle.pass_rules.proofs.MetLaws.{is-mandatory-item, all-fits}
 use Rattle.pass_rules.proofs.SlipOfPass.{pass-finishes}
 use Rattle.pass_rules.proofs.VerdictLaws.{Stands, stands-all, fits-fewer, refused-goals, pruned-mark, forbidden-stays}
 use Rattle.pass_rules.specs.Accepted.{accepted}
@@ -89,7 +89,7 @@ demanded-mandatory S g = (⊎-elim (λ m. m) (required-mandatory S g), inl)
 
 -- where a round stands, some walk meets everything demanded
 stands-meets : (T : Sheet) (goals : List ℕ) → Good T → Stands T → ((g : ℕ) → member g goals ≡ true → Demanded T g) → fitsSheet T goals ≡ true
-stands-meets T goals k z d = fits-fewer T (mandatory T) goals met (mandatory-met T (z .together))
+stands-meets T goals k z d = fits-fewer T (mandatory T) goals met (all-fits T (z .together))
   where
     met : (g : ℕ) → member g goals ≡ true → member g (mandatory T) ≡ true
     met g m =

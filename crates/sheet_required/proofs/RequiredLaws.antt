@@ -11,7 +11,7 @@ use lib.Dec.{eqb, ltb}
 use lib.ListN.{length, getD, set, take, drop, drop-of-length-le, replicate, List·getD-eq-default, getD-replicate, length-append, length-set, length-take}
 use lib.Seq.{getD-set-same, getD-set-other, set-out, take-all, take-nil, take-append-le}
 use borrow.Author.Tests.{eqb-true, eqb-false, eq-eqb, ne-eqb, ltb-true, ltb-false, lt-ltb}
-use Rattle.lists.specs.Lists.{front, member, add, keep, span}
+use Rattle.lists.specs.Lists.{pick, front, member, add, keep, span}
 use Rattle.lists.proofs.MemberLaws.{member-away}
 use Rattle.lists.proofs.TestedLaws.{entry-at}
 use Rattle.lists.proofs.FrontLaws.{length-front, push}
@@ -24,12 +24,23 @@ use Rattle.sheet.specs.Sheet.{Sheet, markOf, isMandatory, isForced, endsMandato
 use Rattle.sheet_required.specs.Whole.{ForcedNodes, FirstArc, RoomListed}
 
 -- a mark of 1 that is set at i, seen from p
-set-one : (xs : List ℕ) (i p : ℕ) → p < length xs → eqb (getD (set xs i 1) p 0) 1 ≡ (eqb i p || eqb (getD xs p 0) 1)
+set-one : (xs : List ℕ) (i p : ℕ) → p < length xs → getD (set xs i 1) p 0 ≡ pick (eqb i p) 1 (getD xs p 0)
 set-one xs i p h = go (eqb i p) refl
   where
-    go : (t : Bool) → eqb i p ≡ t → eqb (getD (set xs i 1) p 0) 1 ≡ (t || eqb (getD xs p 0) 1)
+    go : (t : Bool) → eqb i p ≡ t → getD (set xs i 1) p 0 ≡ pick t 1 (getD xs p 0)
     go true e = let q : i ≡ p = eqb-true i p e in rw (q, getD-set-same xs p 1 0 h)
-    go false e = rw (getD-set-other xs i p 1 0 (λ q. eqb-false i p e (sym q)))
+    go false e = getD-set-other xs i p 1 0 (λ q. eqb-false i p e (sym q))
+
+-- two of them, where a 1 stood for d
+two-set : (xs : List ℕ) (i k p : ℕ) (d : Bool) → p < length xs → getD xs p 0 ≡ pick d 1 0 → getD (set (set xs i 1) k 1) p 0 ≡ pick ((eqb i p || eqb k p) || d) 1 0
+two-set xs i k p d h e =
+    set-one (set xs i 1) k p (rw length-set h) ∙ ap (pick (eqb k p) 1) (set-one xs i p h ∙ ap (pick (eqb i p) 1) e) ∙ either (eqb i p) (eqb k p)
+  where
+    either : (a b : Bool) → _≡_ {A = ℕ} (pick b 1 (pick a 1 (pick d 1 0))) (pick ((a || b) || d) 1 0)
+    either true true = refl
+    either true false = refl
+    either false true = refl
+    either false false = refl
 
 eqb-sym : (a b : ℕ) → eqb a b ≡ eqb b a
 eqb-sym a b = go (eqb a b) refl
@@ -37,12 +48,6 @@ eqb-sym a b = go (eqb a b) refl
     go : (t : Bool) → eqb a b ≡ t → t ≡ eqb b a
     go true e = sym (eq-eqb b a (sym (eqb-true a b e)))
     go false e = sym (ne-eqb b a (λ q. eqb-false a b e (sym q)))
-
-either-end : (a b d : Bool) → (b || (a || d)) ≡ ((a || b) || d)
-either-end true true d = refl
-either-end true false d = refl
-either-end false true d = refl
-either-end false false d = refl
 
 or-assoc : (a b c : Bool) → (a || (b || c)) ≡ ((a || b) || c)
 or-assoc true b c = refl
@@ -60,29 +65,24 @@ module _ (h : Header) (xs ms : List ℕ) where
   pub record Ending (j : ℕ) (forced : List ℕ) (first : ℕ) : Type 0 where
     pub few : j ≤ h .arcs
     pub size : length forced ≡ 64
-    pub each : (p : ℕ) → p < 64 → eqb (getD forced p 0) 1 ≡ (endsMandatory S p (span (h .arcs - j) j) || (eqb (h .target) p || eqb (h .source) p))
+    pub each : (p : ℕ) → p < 64 → getD forced p 0 ≡ pick (endsMandatory S p (span (h .arcs - j) j)) 1 0
     pub low : j ≤ first
     pub high : first ≤ h .arcs
     pub none : (i : ℕ) → j ≤ i → i < first → isMandatory S (arcItem (S .graph) i) ≡ false
     pub there : first < h .arcs → isMandatory S (arcItem (S .graph) first) ≡ true
 
-  pub no-ends : Ending (h .arcs) (set (set (replicate 64 0) (h .source) 1) (h .target) 1) (h .arcs)
+  pub no-ends : Ending (h .arcs) (replicate 64 0) (h .arcs)
   unfolding endsMandatory span
   no-ends =
       record {
         few = omega arith;
-        size = simp length-set;
-        each = λ p l. let e : h .arcs - h .arcs ≡ 0 = omega arith in rw e (marked p l);
+        size = refl;
+        each = λ p l. let e : h .arcs - h .arcs ≡ 0 = omega arith in rw (getD-replicate {A = ℕ} 64 p 0 0 l, e);
         low = omega arith;
         high = omega arith;
         none = λ i l g. absurd (omega arith);
         there = λ l. absurd (omega arith);
       }
-    where
-      marked : (p : ℕ) → p < 64 → eqb (getD (set (set (replicate 64 0) (h .source) 1) (h .target) 1) p 0) 1 ≡ (eqb (h .target) p || eqb (h .source) p)
-      marked p l =
-          set-one (set (replicate 64 0) (h .source) 1) (h .target) p (rw length-set l)
-          ∙ ap (λ (b : Bool). eqb (h .target) p || b) (set-one (replicate 64 0) (h .source) p l ∙ rw (getD-replicate {A = ℕ} 64 p 0 0 l) (none-or (eqb (h .source) p)))
 
   module _ (sized : Sized h xs ms) {j : ℕ} {forced : List ℕ} {first : ℕ} (w : Ending j forced first) (l : 0 < j) where
     spanned : span (h .arcs - (j - 1)) (j - 1) ≡ (j - 1) ∷ span (h .arcs - j) j
@@ -98,7 +98,7 @@ module _ (h : Header) (xs ms : List ℕ) where
         record {
           few = omega (arith, w .few);
           size = simp length-set (w .size);
-          each = λ p b. rw (spanned, m, tail, head) (adds p b);
+          each = λ p b. rw (spanned, m, tail, head) (two-set forced (getD xs ((j - 1) * 3) 0) (getD xs ((j - 1) * 3 + 1) 0) p _ (omega (arith, w .size)) (w .each p b));
           low = omega arith;
           high = omega (arith, w .few);
           none = λ i g k. absurd (omega arith);
@@ -110,17 +110,6 @@ module _ (h : Header) (xs ms : List ℕ) where
 
         head : getD (arcsOf xs) (j - 1) noArc .head ≡ getD xs ((j - 1) * 3 + 1) 0
         head = ap (λ (x : Arc). x .head) (arc-at xs (j - 1) (omega (arith, sized .0, w .few)))
-
-        adds :
-            (p : ℕ) → p < 64
-            → eqb (getD (set (set forced (getD xs ((j - 1) * 3) 0) 1) (getD xs ((j - 1) * 3 + 1) 0) 1) p 0) 1
-            ≡ (((eqb (getD xs ((j - 1) * 3) 0) p || eqb (getD xs ((j - 1) * 3 + 1) 0) p) || endsMandatory S p (span (h .arcs - j) j)) || (eqb (h .target) p || eqb (h .source) p))
-        adds p b =
-            set-one (set forced (getD xs ((j - 1) * 3) 0) 1) (getD xs ((j - 1) * 3 + 1) 0) p (rw length-set (omega (arith, w .size)))
-            ∙ ap (λ (t : Bool). eqb (getD xs ((j - 1) * 3 + 1) 0) p || t)
-            (set-one forced (getD xs ((j - 1) * 3) 0) p (omega (arith, w .size)) ∙ ap (λ (t : Bool). eqb (getD xs ((j - 1) * 3) 0) p || t) (w .each p b))
-            ∙ either-end (eqb (getD xs ((j - 1) * 3) 0) p) (eqb (getD xs ((j - 1) * 3 + 1) 0) p) (endsMandatory S p (span (h .arcs - j) j) || (eqb (h .target) p || eqb (h .source) p))
-            ∙ or-assoc (eqb (getD xs ((j - 1) * 3) 0) p || eqb (getD xs ((j - 1) * 3 + 1) 0) p) (endsMandatory S p (span (h .arcs - j) j)) (eqb (h .target) p || eqb (h .source) p)
 
     pub end-pass : isMandatory S (arcItem (S .graph) (j - 1)) ≡ false → Ending (j - 1) forced first
     unfolding endsMandatory
@@ -139,32 +128,37 @@ module _ (h : Header) (xs ms : List ℕ) where
         earlier i g k true e = rw (eqb-true i (j - 1) e) m
         earlier i g k false e = let n = eqb-false i (j - 1) e in w .none i (omega arith) k
 
-  pub all-ends : Sized h xs ms → h .nodes ≤ 64 → {j : ℕ} {forced : List ℕ} {first : ℕ} → Ending j forced first → j ≤ 0
-      → ForcedNodes S forced × FirstArc S first
-  unfolding allArcs isForced
-  all-ends sized few {j} {forced} w l = (
-    record { size = w .size; each = λ p q. rw (lt-ltb p (h .nodes) q) (w .each p (omega arith) ∙ rw (ends, eqb-sym (h .target) p, eqb-sym (h .source) p) (turned _ (eqb p (h .target)) (eqb p (h .source)))) },
+  -- source and target are put in
+  pub all-ends : Sized h xs ms → {j : ℕ} {ends : List ℕ} {first : ℕ} → Ending j ends first → j ≤ 0
+      → ForcedNodes S (set (set ends (h .source) 1) (h .target) 1) × FirstArc S first
+  unfolding allArcs
+  all-ends sized {j} {ends} w l = (
+    record {
+      size = simp length-set (w .size);
+      each = λ p q.
+          two-set ends (h .source) (h .target) p (endsMandatory S p (span (h .arcs - j) j)) (omega (arith, w .size)) (w .each p q)
+          ∙ rw (all, eqb-sym (h .source) p, eqb-sym (h .target) p, or-assoc (eqb p (h .source)) (eqb p (h .target)) (endsMandatory S p (allArcs (S .graph))));
+    },
     record { few = rw (arcs-many xs (h .arcs) (sized .0)) (w .high); none = λ i k. w .none i (omega arith) k; there = λ k. w .there (rw (← (arcs-many xs (h .arcs) (sized .0))) k) },
   )
     where
-      ends : span (h .arcs - j) j ≡ allArcs (S .graph)
-      ends = let z : j ≡ 0 = omega arith in let e : h .arcs - 0 ≡ h .arcs = omega arith in rw (z, e, arcs-many xs (h .arcs) (sized .0))
+      all : span (h .arcs - j) j ≡ allArcs (S .graph)
+      all = let z : j ≡ 0 = omega arith in let e : h .arcs - 0 ≡ h .arcs = omega arith in rw (z, e, arcs-many xs (h .arcs) (sized .0))
 
-      turned : (a b c : Bool) → (a || (b || c)) ≡ (c || (b || a))
-      turned true true true = refl
-      turned true true false = refl
-      turned true false true = refl
-      turned true false false = refl
-      turned false true true = refl
-      turned false true false = refl
-      turned false false true = refl
-      turned false false false = refl
+-- a node is forced exactly where its number is 1
+pub forced-one : (S : Sheet) {forced : List ℕ} → ForcedNodes S forced → S .graph .nodes ≤ 64 → (p : ℕ) → p < S .graph .nodes → eqb (getD forced p 0) 1 ≡ isForced S p
+unfolding isForced
+forced-one S w few p h = rw (lt-ltb p (S .graph .nodes) h, w .each p (omega arith)) (one (eqb p (S .source) || (eqb p (S .target) || endsMandatory S p (allArcs (S .graph)))))
+  where
+    one : (t : Bool) → eqb (pick t 1 0) 1 ≡ t
+    one true = refl
+    one false = refl
 
 -- a node is required where it is mandatory and not forced, an arc where it is mandatory
-pub required-node : (S : Sheet) {forced : List ℕ} → ForcedNodes S forced → (i : ℕ) → i < S .graph .nodes
+pub required-node : (S : Sheet) {forced : List ℕ} → ForcedNodes S forced → S .graph .nodes ≤ 64 → (i : ℕ) → i < S .graph .nodes
     → (eqb (getD (S .marks) i 0) 1 && not (eqb (getD forced i 0) 1)) ≡ isRequired S i
 unfolding isRequired isMandatory markOf
-required-node S w i h = ap (λ (b : Bool). eqb (getD (S .marks) i 0) 1 && not b) (w .each i h)
+required-node S w few i h = ap (λ (b : Bool). eqb (getD (S .marks) i 0) 1 && not b) (forced-one S w few i h)
 
 pub required-arc : (S : Sheet) (i : ℕ) → S .graph .nodes ≤ i → eqb (getD (S .marks) i 0) 1 ≡ isRequired S i
 unfolding isRequired isMandatory markOf

@@ -1,12 +1,12 @@
 -- A sheet as the code has it.
 use Prim.Native.Nat.{ℕ, _≤_, _<_}
 use mathlib.Core.Path.{_≡_}
-use mathlib.Core.Bool.{true, false}
+use mathlib.Core.Bool.{true, false, _||_}
 use mathlib.Core.List.{List}
 use lib.ListN.{length, getD, take}
 use lib.Dec.{eqb}
-use Rattle.lists.specs.Lists.{front}
-use Rattle.sheet.specs.Sheet.{Sheet, sheetOf, Sized, isMandatory, isForced, required}
+use Rattle.lists.specs.Lists.{pick, front}
+use Rattle.sheet.specs.Sheet.{Sheet, sheetOf, Sized, isMandatory, allArcs, endsMandatory, required}
 use Rattle.sheet.specs.Good.{Good}
 use Rattle.walks.specs.Graph.{arcItem}
 use Rattle.rows.specs.Net.{netOf, Proper}
@@ -23,10 +23,10 @@ pub record Whole (h : Header) (arcs marks : List ℕ) : Type 0 where
   pub good : Good (sheetOf h arcs marks)
   pub eight : length (required (sheetOf h arcs marks)) ≤ 8
 
--- a 1 for each node that is source, target or an end of a mandatory arc
+-- 64 numbers, a 1 for each node that is source, target or an end of a mandatory arc, and else 0
 pub record ForcedNodes (S : Sheet) (forced : List ℕ) : Type 0 where
   pub size : length forced ≡ 64
-  pub each : (p : ℕ) → p < S .graph .nodes → eqb (getD forced p 0) 1 ≡ isForced S p
+  pub each : (p : ℕ) → p < 64 → getD forced p 0 ≡ pick (eqb p (S .source) || (eqb p (S .target) || endsMandatory S p (allArcs (S .graph)))) 1 0
 
 -- the first mandatory arc, or how many arcs there are where none is mandatory
 pub record FirstArc (S : Sheet) (first : ℕ) : Type 0 where

@@ -36,8 +36,6 @@ pub fn force_nodes(header: Header, arcs: &[u32], marks: &[u8], forced: &mut [u8]
     ensures { λ r. let S = sheetOf header (now (arcs .entry)) (now (marks .entry)) in
         ⌜ ForcedNodes S (now (forced .exit)) × FirstArc S r ⌝ }
 {
-    mark_node(forced, header.source);
-    mark_node(forced, header.target);
     let mut first = header.arcs;
     let mut j = header.arcs;
     while 0 < j {
@@ -47,6 +45,8 @@ pub fn force_nodes(header: Header, arcs: &[u32], marks: &[u8], forced: &mut [u8]
             first = j;
         }
     }
+    mark_node(forced, header.source);
+    mark_node(forced, header.target);
     first
 }
 

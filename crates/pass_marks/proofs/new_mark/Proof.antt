@@ -4,6 +4,7 @@ use mathlib.Core.Bool.{true, false}
 use borrow.Author.Tests.{eq-eqb, ne-eqb, not-true, not-false}
 use Rattle.sheet.proofs.MarkLaws.{arc-free}
 use Rattle.sheet.specs.Sheet.{markOf, sheetOf}
+use Rattle.sheet_required.proofs.RequiredLaws.{forced-one}
 use Rattle.pass_marks.proofs.MarkingLaws.{mark-kept, mark-pruned, mark-open}
 use borrow.Author.Needs.{needs}
 use Rattle.pass_marks.proofs.new_mark.Statement.{statement}
@@ -31,14 +32,14 @@ unfolding markOf
 returns-3 c =
     let s = c .before .before .before .before .before .before .before .before .before .before .before .before in
     mark-open (sheetOf (s .args .header) (s .args .arcs .now) (s .args .marks .now)) (s .args .item) 1 true (c .before .before .before .before .before .before .if1 .left) (sym (c .before .before .before .before .before .fits-item .ensures) ∙ not-false _ (c .before .before .before .before .if2 .left))
-    (sym (s .pre .1 .each (s .args .item) (c .before .before .if3 .taken)) ∙ eq-eqb _ 1 (c .if4 .taken)) refl
+    (sym (forced-one (sheetOf (s .args .header) (s .args .arcs .now) (s .args .marks .now)) (s .pre .1) (s .pre .0 .0 .whole .proper .few) (s .args .item) (c .before .before .if3 .taken)) ∙ eq-eqb _ 1 (c .if4 .taken)) refl
 
 returns-4 : tie.Need-returns-4
 unfolding markOf
 returns-4 c =
     let s = c .before .before .before .before .before .before .before .before .before .before .before .before in
     mark-open (sheetOf (s .args .header) (s .args .arcs .now) (s .args .marks .now)) (s .args .item) 0 false (c .before .before .before .before .before .before .if1 .left) (sym (c .before .before .before .before .before .fits-item .ensures) ∙ not-false _ (c .before .before .before .before .if2 .left))
-    (sym (s .pre .1 .each (s .args .item) (c .before .before .if3 .taken)) ∙ ne-eqb _ 1 (c .if4 .left)) refl
+    (sym (forced-one (sheetOf (s .args .header) (s .args .arcs .now) (s .args .marks .now)) (s .pre .1) (s .pre .0 .0 .whole .proper .few) (s .args .item) (c .before .before .if3 .taken)) ∙ ne-eqb _ 1 (c .if4 .left)) refl
 
 returns-5 : tie.Need-returns-5
 unfolding markOf

@@ -1,4 +1,4 @@
--- `force_nodes` marks source and target, and then the ends of the mandatory arcs, from the last arc to the first. The invariant: `Ending`. Assumes nothing.
+-- `force_nodes` marks the ends of the mandatory arcs, from the last arc to the first, and then source and target. The invariant: `Ending`. Assumes nothing.
 use borrow.Author.Needs.{needs}
 use mathlib.Core.Path.{sym, ap, _∙_}
 use native.Mathlib.Omega.{arith}
@@ -7,6 +7,7 @@ use borrow.Author.Tests.{ne-eqb}
 use Rattle.walks.specs.Graph.{arcItem}
 use Rattle.sheet.proofs.MarkLaws.{is-mandatory}
 use Rattle.sheet.specs.Sheet.{sheetOf, isMandatory, markOf}
+use Rattle.sheet_required.specs.Whole.{ForcedNodes, FirstArc}
 use Rattle.sheet_required.proofs.RequiredLaws.{Ending, no-ends, end-more, end-pass, all-ends}
 use Rattle.sheet_required.proofs.force_nodes.Statement.{statement}
 use Rattle.sheet_required.proofs.force_nodes.Tie as tie
@@ -17,16 +18,8 @@ Inv-loop header arcs marks forced₀ first₀ j₀ forced first j = Ending heade
 abbrev μ-loop : tie.MeasureT-loop
 μ-loop header arcs marks forced₀ first₀ j₀ forced first j = j
 
-mark-node-requires : tie.Need-mark-node-requires Inv-loop μ-loop
-mark-node-requires c κs = search needs
-
-mark-node-requires-2 : tie.Need-mark-node-requires-2 Inv-loop μ-loop
-mark-node-requires-2 c κs = search needs
-
 loop-holds : tie.Need-loop-holds Inv-loop μ-loop
-loop-holds c =
-    let s = c .before .before .before .before .before .before .before .before .before .before .before in
-    rw (c .before .before .mark-node2 .ensures, c .before .before .before .before .before .before .mark-node .ensures, s .pre .2) (no-ends (s .args .header) (s .args .arcs .now) (s .args .marks .now))
+loop-holds c = let s = c .before .before .before in rw (s .pre .2) (no-ends (s .args .header) (s .args .arcs .now) (s .args .marks .now))
 
 sub-j : tie.Need-sub-j Inv-loop μ-loop
 sub-j c = omega arith
@@ -67,7 +60,7 @@ loop-less c = omega arith
 loop-again : tie.Need-loop-again Inv-loop μ-loop
 unfolding markOf arcItem
 loop-again c =
-    let s = c .before .before .before .before .before .before .before .before .before .before .before .before .before .before .before .before .before .before .before .before .before .before in
+    let s = c .before .before .before .before .before .before .before .before .before .before .before .before .before .before in
     rw (c .before .before .mark-ends .ensures)
     (end-more _ _ _ (s .pre .0) (c .before .before .before .before .before .before .before .before .before .before .loop .inv) (c .before .before .before .before .before .before .before .before .before .loop-test .taken) (is-mandatory (sheetOf (s .args .header) (s .args .arcs .now) (s .args .marks .now)) _ (c .before .before .before .before .before .before .if1 .taken)))
 
@@ -76,13 +69,26 @@ loop-less-2 c = omega arith
 
 loop-again-2 : tie.Need-loop-again-2 Inv-loop μ-loop
 unfolding isMandatory markOf arcItem
-loop-again-2 c = let s = c .before .before .before .before .before .before .before .before .before .before .before .before .before .before .before .before in end-pass _ _ _ (s .pre .0) (c .before .before .before .before .loop .inv) (c .before .before .before .loop-test .taken) (ne-eqb _ 1 (c .if1 .left))
+loop-again-2 c = let s = c .before .before .before .before .before .before .before .before in end-pass _ _ _ (s .pre .0) (c .before .before .before .before .loop .inv) (c .before .before .before .loop-test .taken) (ne-eqb _ 1 (c .if1 .left))
+
+mark-node-requires : tie.Need-mark-node-requires Inv-loop μ-loop
+mark-node-requires c κs = search needs
+
+mark-node-requires-2 : tie.Need-mark-node-requires-2 Inv-loop μ-loop
+mark-node-requires-2 c κs = search needs
+
+-- what stands there in the end
+done : (c : tie.After-slice-known4 Inv-loop μ-loop) → let s = c .before .before .before .before .before .before .before .before .before .before .before .before .before in let S = sheetOf (s .args .header) (s .args .arcs .now) (s .args .marks .now) in
+    ForcedNodes S (c .before .before .mark-node2 .last .0) × FirstArc S (c .before .before .before .before .before .before .before .before .before .loop .first)
+done c =
+    let s = c .before .before .before .before .before .before .before .before .before .before .before .before .before in
+    rw (c .before .before .mark-node2 .ensures, c .before .before .before .before .before .before .mark-node .ensures) (all-ends _ _ _ (s .pre .0) (c .before .before .before .before .before .before .before .before .before .loop .inv) (c .before .before .before .before .before .before .before .before .loop-test .left))
 
 same-length : tie.Need-same-length Inv-loop μ-loop
-same-length c = c .before .loop .inv .size ∙ sym (ap length (c .before .before .before .before .before .before .before .before .before .before .before .before .before .pre .2))
+same-length c = done c .0 .size ∙ sym (ap length (c .before .before .before .before .before .before .before .before .before .before .before .before .before .pre .2))
 
 returns : tie.Need-returns Inv-loop μ-loop
-returns c = let s = c .before .before .before .before .before .before .before .before .before .before .before .before .before in all-ends _ _ _ (s .pre .0) (s .pre .1) (c .before .loop .inv) (c .loop-test .left)
+returns c = done c
 
 pub force-nodes-spec : {M : Type 1} → statement M
 force-nodes-spec =
@@ -90,8 +96,6 @@ force-nodes-spec =
     (tie.spec
     Inv-loop
     μ-loop
-    mark-node-requires
-    mark-node-requires-2
     loop-holds
     sub-j
     add-if1
@@ -108,5 +112,7 @@ force-nodes-spec =
     loop-again
     loop-less-2
     loop-again-2
+    mark-node-requires
+    mark-node-requires-2
     same-length
     returns)

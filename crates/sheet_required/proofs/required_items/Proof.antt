@@ -70,7 +70,7 @@ loop-again c =
     let a = c .before .before .before .before .before .before .before .before .before .before .before .before .before .before .args in
     let w = c .before .before .before .before .before .loop .inv .0 in
     let t = c .before .before .before .if2 .taken in
-    let e = c .before .is-required .ensures ∙ required-node (sheetOf (a .header) (a .arcs .now) (a .marks .now)) (c .before .before .before .before .before .before .before .force-nodes .ensures .0) (c .before .before .before .before .before .loop .i) t in
+    let e = c .before .is-required .ensures ∙ required-node (sheetOf (a .header) (a .arcs .now) (a .marks .now)) (c .before .before .before .before .before .before .before .force-nodes .ensures .0) (c .before .before .before .before .before .before .before .before .before .before .before .before .before .before .pre .1) (c .before .before .before .before .before .loop .i) t in
     ⊎-elim
     (λ k. (rw (k .5, k .6, k .2 .ensures .0, k .2 .ensures .1) (list-more w (omega (arith, t)) (sym e ∙ k .0 .taken)), omega (arith, t)))
     (λ k. (rw (k .1, k .2) (list-pass w (omega (arith, t)) (sym e ∙ k .0 .left)), omega (arith, t)))
