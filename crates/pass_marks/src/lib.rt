@@ -11,7 +11,6 @@ ghost use Rattle.item_fits.specs.Rows.{Rows};
 use sheet::Header;
 use walks::FORBIDDEN;
 use walks::MANDATORY;
-use walks::NODES;
 use walks::OPEN;
 
 // An item's mark after a pass of verdict 0: an open item that no walk meets becomes forbidden, an open node that is forced mandatory.
@@ -47,8 +46,7 @@ fn put_marks(header: Header, arcs: &[u32], marks: &[u8], rows: &[u32], out: &mut
     requires { ⌜ Rows header (now arcs) (now marks) (now rows) × (header .nodes + header .arcs ≤ length (now out)) ⌝ }
     ensures { λ _. ⌜ now (out .exit) ≡ front (newMarks (sheetOf header (now (arcs .entry)) (now (marks .entry)))) (now (out .entry)) ⌝ }
 {
-    let mut forced = [0u8; NODES];
-    sheet_required::force_nodes(header, arcs, marks, &mut forced);
+    let forced = sheet_required::forced_nodes(header, arcs, marks);
     let items = header.nodes + header.arcs;
     let mut i: usize = 0;
     while i < items {

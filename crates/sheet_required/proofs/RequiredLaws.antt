@@ -1,8 +1,8 @@
 -- Laws of the forced nodes and the required items: the ends of mandatory arcs, marked from the last arc to the first, and the list of the items that
 -- pass the test.
 -- Assumes nothing.
-use Prim.Native.Nat.{ℕ, zero, suc, _+_, _-_, _*_, _≤_, _<_}
-use mathlib.Core.Path.{_≡_, refl, ap, sym, _∙_, subst}
+use Prim.Native.Nat.{ℕ, suc, _+_, _-_, _*_, _≤_, _<_}
+use mathlib.Core.Path.{_≡_, refl, ap, sym, _∙_}
 use mathlib.Core.List.{List, [], _∷_, _++_, append-assoc, append-nil}
 use mathlib.Core.Bool.{Bool, true, false, not, _&&_, _||_}
 use native.Mathlib.Omega.{arith}
@@ -21,7 +21,7 @@ use Rattle.walks.proofs.FlatLaws.{arc-at, arcs-many}
 use Rattle.sheet.specs.declared.Header.{Header}
 use Rattle.sheet.proofs.MarkLaws.{arc-free, unmarked}
 use Rattle.sheet.specs.Sheet.{Sheet, markOf, isMandatory, isForced, endsMandatory, allArcs, isRequired, required, sheetOf, Sized}
-use Rattle.sheet_required.specs.Whole.{ForcedNodes, FirstArc, RoomListed}
+use Rattle.sheet_required.specs.Whole.{ForcedNodes, RoomListed}
 
 -- a mark of 1 that is set at i, seen from p
 set-one : (xs : List ℕ) (i p : ℕ) → p < length xs → getD (set xs i 1) p 0 ≡ pick (eqb i p) 1 (getD xs p 0)
@@ -62,29 +62,21 @@ module _ (h : Header) (xs ms : List ℕ) where
   S = sheetOf h xs ms
 
   -- the arcs from j on were looked at
-  pub record Ending (j : ℕ) (forced : List ℕ) (first : ℕ) : Type 0 where
+  pub record Ending (j : ℕ) (forced : List ℕ) : Type 0 where
     pub few : j ≤ h .arcs
     pub size : length forced ≡ 64
     pub each : (p : ℕ) → p < 64 → getD forced p 0 ≡ pick (endsMandatory S p (span (h .arcs - j) j)) 1 0
-    pub low : j ≤ first
-    pub high : first ≤ h .arcs
-    pub none : (i : ℕ) → j ≤ i → i < first → isMandatory S (arcItem (S .graph) i) ≡ false
-    pub there : first < h .arcs → isMandatory S (arcItem (S .graph) first) ≡ true
 
-  pub no-ends : Ending (h .arcs) (replicate 64 0) (h .arcs)
+  pub no-ends : Ending (h .arcs) (replicate 64 0)
   unfolding endsMandatory span
   no-ends =
       record {
         few = omega arith;
         size = refl;
         each = λ p l. let e : h .arcs - h .arcs ≡ 0 = omega arith in rw (getD-replicate {A = ℕ} 64 p 0 0 l, e);
-        low = omega arith;
-        high = omega arith;
-        none = λ i l g. absurd (omega arith);
-        there = λ l. absurd (omega arith);
       }
 
-  module _ (sized : Sized h xs ms) {j : ℕ} {forced : List ℕ} {first : ℕ} (w : Ending j forced first) (l : 0 < j) where
+  module _ (sized : Sized h xs ms) {j : ℕ} {forced : List ℕ} (w : Ending j forced) (l : 0 < j) where
     spanned : span (h .arcs - (j - 1)) (j - 1) ≡ (j - 1) ∷ span (h .arcs - j) j
     unfolding span
     spanned =
@@ -92,17 +84,13 @@ module _ (h : Header) (xs ms : List ℕ) where
         let q : suc (j - 1) ≡ j = omega arith in
         rw (e, span, q)
 
-    pub end-more : isMandatory S (arcItem (S .graph) (j - 1)) ≡ true → Ending (j - 1) (set (set forced (getD xs ((j - 1) * 3) 0) 1) (getD xs ((j - 1) * 3 + 1) 0) 1) (j - 1)
+    pub end-more : isMandatory S (arcItem (S .graph) (j - 1)) ≡ true → Ending (j - 1) (set (set forced (getD xs ((j - 1) * 3) 0) 1) (getD xs ((j - 1) * 3 + 1) 0) 1)
     unfolding endsMandatory tailOf headOf
     end-more m =
         record {
           few = omega (arith, w .few);
           size = simp length-set (w .size);
           each = λ p b. rw (spanned, m, tail, head) (two-set forced (getD xs ((j - 1) * 3) 0) (getD xs ((j - 1) * 3 + 1) 0) p _ (omega (arith, w .size)) (w .each p b));
-          low = omega arith;
-          high = omega (arith, w .few);
-          none = λ i g k. absurd (omega arith);
-          there = λ _. m;
         }
       where
         tail : getD (arcsOf xs) (j - 1) noArc .tail ≡ getD xs ((j - 1) * 3) 0
@@ -111,36 +99,19 @@ module _ (h : Header) (xs ms : List ℕ) where
         head : getD (arcsOf xs) (j - 1) noArc .head ≡ getD xs ((j - 1) * 3 + 1) 0
         head = ap (λ (x : Arc). x .head) (arc-at xs (j - 1) (omega (arith, sized .0, w .few)))
 
-    pub end-pass : isMandatory S (arcItem (S .graph) (j - 1)) ≡ false → Ending (j - 1) forced first
+    pub end-pass : isMandatory S (arcItem (S .graph) (j - 1)) ≡ false → Ending (j - 1) forced
     unfolding endsMandatory
-    end-pass m =
-        record {
-          few = omega (arith, w .few);
-          size = w .size;
-          each = λ p b. rw (spanned, m) (w .each p b);
-          low = omega (arith, w .low);
-          high = w .high;
-          none = λ i g k. earlier i g k (eqb i (j - 1)) refl;
-          there = w .there;
-        }
-      where
-        earlier : (i : ℕ) → j - 1 ≤ i → i < first → (t : Bool) → eqb i (j - 1) ≡ t → isMandatory S (arcItem (S .graph) i) ≡ false
-        earlier i g k true e = rw (eqb-true i (j - 1) e) m
-        earlier i g k false e = let n = eqb-false i (j - 1) e in w .none i (omega arith) k
+    end-pass m = record { few = omega (arith, w .few); size = w .size; each = λ p b. rw (spanned, m) (w .each p b) }
 
   -- source and target are put in
-  pub all-ends : Sized h xs ms → {j : ℕ} {ends : List ℕ} {first : ℕ} → Ending j ends first → j ≤ 0
-      → ForcedNodes S (set (set ends (h .source) 1) (h .target) 1) × FirstArc S first
+  pub all-ends : Sized h xs ms → {j : ℕ} {ends : List ℕ} → Ending j ends → j ≤ 0 → ForcedNodes S (set (set ends (h .source) 1) (h .target) 1)
   unfolding allArcs
-  all-ends sized {j} {ends} w l = (
-    record {
-      size = simp length-set (w .size);
-      each = λ p q.
-          two-set ends (h .source) (h .target) p (endsMandatory S p (span (h .arcs - j) j)) (omega (arith, w .size)) (w .each p q)
-          ∙ rw (all, eqb-sym (h .source) p, eqb-sym (h .target) p, or-assoc (eqb p (h .source)) (eqb p (h .target)) (endsMandatory S p (allArcs (S .graph))));
-    },
-    record { few = rw (arcs-many xs (h .arcs) (sized .0)) (w .high); none = λ i k. w .none i (omega arith) k; there = λ k. w .there (rw (← (arcs-many xs (h .arcs) (sized .0))) k) },
-  )
+  all-ends sized {j} {ends} w l = record {
+    size = simp length-set (w .size);
+    each = λ p q.
+        two-set ends (h .source) (h .target) p (endsMandatory S p (span (h .arcs - j) j)) (omega (arith, w .size)) (w .each p q)
+        ∙ rw (all, eqb-sym (h .source) p, eqb-sym (h .target) p, or-assoc (eqb p (h .source)) (eqb p (h .target)) (endsMandatory S p (allArcs (S .graph))));
+  }
     where
       all : span (h .arcs - j) j ≡ allArcs (S .graph)
       all = let z : j ≡ 0 = omega arith in let e : h .arcs - 0 ≡ h .arcs = omega arith in rw (z, e, arcs-many xs (h .arcs) (sized .0))
@@ -154,19 +125,15 @@ forced-one S w few p h = rw (lt-ltb p (S .graph .nodes) h, w .each p (omega arit
     one true = refl
     one false = refl
 
--- a node is required where it is mandatory and not forced, an arc where it is mandatory
-pub required-node : (S : Sheet) {forced : List ℕ} → ForcedNodes S forced → S .graph .nodes ≤ 64 → (i : ℕ) → i < S .graph .nodes
-    → (eqb (getD (S .marks) i 0) 1 && not (eqb (getD forced i 0) 1)) ≡ isRequired S i
+-- the test of an item, by its mark and the forced nodes
+pub required-by : (S : Sheet) {forced : List ℕ} → ForcedNodes S forced → S .graph .nodes ≤ 64 → (i : ℕ)
+    → (eqb (getD (S .marks) i 0) 1 && not (ltb i (S .graph .nodes) && eqb (getD forced i 0) 1)) ≡ isRequired S i
 unfolding isRequired isMandatory markOf
-required-node S w few i h = ap (λ (b : Bool). eqb (getD (S .marks) i 0) 1 && not b) (forced-one S w few i h)
-
-pub required-arc : (S : Sheet) (i : ℕ) → S .graph .nodes ≤ i → eqb (getD (S .marks) i 0) 1 ≡ isRequired S i
-unfolding isRequired isMandatory markOf
-required-arc S i h = rw (arc-free S i h) (sym (and-one (eqb (getD (S .marks) i 0) 1)))
+required-by S {forced} w few i = ap (λ (b : Bool). eqb (getD (S .marks) i 0) 1 && not b) (go (ltb i (S .graph .nodes)) refl)
   where
-    and-one : (a : Bool) → (a && true) ≡ a
-    and-one true = refl
-    and-one false = refl
+    go : (t : Bool) → ltb i (S .graph .nodes) ≡ t → (t && eqb (getD forced i 0) 1) ≡ isForced S i
+    go true e = forced-one S w few i (ltb-true i (S .graph .nodes) e)
+    go false e = sym (arc-free S i (ltb-false i (S .graph .nodes) e))
 
 -- the numbers below p that pass the test were written over the front of `old`, as far as it has room
 pub record Listing (f : ℕ → Bool) (n : ℕ) (old out : List ℕ) (count p : ℕ) : Type 0 where
@@ -237,25 +204,6 @@ module _ {f : ℕ → Bool} {n : ℕ} {old out : List ℕ} {count p : ℕ} (w : 
       let k : n - p ≡ 0 = omega arith in
       let e : keep f (span n 0) ≡ w .xs = w .same ∙ rw k (append-nil (w .xs)) in
       rw e (record { counted = sym (w .size); written = w .holds })
-
--- numbers that do not pass are left out at once
-pub list-skip : {f : ℕ → Bool} {n : ℕ} {old out : List ℕ} {count p : ℕ} (d : ℕ) → Listing f n old out count p → p + d ≤ n
-    → ((j : ℕ) → p ≤ j → j < p + d → f j ≡ false) → Listing f n old out count (p + d)
-list-skip {p = p} zero w l g = let e : p + 0 ≡ p = omega arith in rw e w
-list-skip {p = p} (suc d) w l g =
-    let e : p + suc d ≡ p + d + 1 = omega arith in
-    rw e (list-pass (list-skip d w (omega arith) (λ j a b. g j a (omega arith))) (omega arith) (g (p + d) (omega arith) (omega arith)))
-
--- behind the nodes the list goes on at the first mandatory arc
-pub arcs-begun : (S : Sheet) {n : ℕ} {old out : List ℕ} {count i first : ℕ} → FirstArc S first → n ≡ S .graph .nodes + length (S .graph .arcs)
-    → Listing (isRequired S) n old out count i → i ≡ S .graph .nodes → Listing (isRequired S) n old out count (S .graph .nodes + first)
-unfolding isRequired arcItem
-arcs-begun S {n} {old} {out} {count} {i} {first} F e w q =
-    list-skip first (subst (λ (k : ℕ). Listing (isRequired S) n old out count k) q w) (omega (arith, F .few))
-    (λ j a b.
-    let z : S .graph .nodes + (j - S .graph .nodes) ≡ j = omega arith in
-    let m : isMandatory S j ≡ false = rw (← z) (F .none (j - S .graph .nodes) (omega arith)) in
-    rw m)
 
 -- the mark of 1 was found among the first i, or is looked for among the others
 pub found-more : (xs : List ℕ) (i : ℕ) (t : Bool) → member 1 xs ≡ (t || member 1 (drop i xs)) → i < length xs

@@ -1,14 +1,13 @@
 -- A sheet as the code has it.
 use Prim.Native.Nat.{ℕ, _≤_, _<_}
 use mathlib.Core.Path.{_≡_}
-use mathlib.Core.Bool.{true, false, _||_}
+use mathlib.Core.Bool.{_||_}
 use mathlib.Core.List.{List}
 use lib.ListN.{length, getD, take}
 use lib.Dec.{eqb}
 use Rattle.lists.specs.Lists.{pick, front}
-use Rattle.sheet.specs.Sheet.{Sheet, sheetOf, Sized, isMandatory, allArcs, endsMandatory, required}
+use Rattle.sheet.specs.Sheet.{Sheet, sheetOf, Sized, allArcs, endsMandatory, required}
 use Rattle.sheet.specs.Good.{Good}
-use Rattle.walks.specs.Graph.{arcItem}
 use Rattle.rows.specs.Net.{netOf, Proper}
 use Rattle.sheet.specs.declared.Header.{Header}
 
@@ -27,12 +26,6 @@ pub record Whole (h : Header) (arcs marks : List ℕ) : Type 0 where
 pub record ForcedNodes (S : Sheet) (forced : List ℕ) : Type 0 where
   pub size : length forced ≡ 64
   pub each : (p : ℕ) → p < 64 → getD forced p 0 ≡ pick (eqb p (S .source) || (eqb p (S .target) || endsMandatory S p (allArcs (S .graph)))) 1 0
-
--- the first mandatory arc, or how many arcs there are where none is mandatory
-pub record FirstArc (S : Sheet) (first : ℕ) : Type 0 where
-  pub few : first ≤ length (S .graph .arcs)
-  pub none : (j : ℕ) → j < first → isMandatory S (arcItem (S .graph) j) ≡ false
-  pub there : first < length (S .graph .arcs) → isMandatory S (arcItem (S .graph) first) ≡ true
 
 -- so many entries there are, and as many of them as the list has room for stand in front of it
 pub record RoomListed (xs old list : List ℕ) (n : ℕ) : Type 0 where

@@ -2,11 +2,11 @@
 ghost use mathlib.Core.Path.{_≡_};
 ghost use mathlib.Core.Bool.{not, _&&_};
 ghost use Prim.Native.Nat.{_+_, _*_, _≤_, _<_};
-ghost use lib.ListN.{length, replicate, set};
-ghost use lib.Dec.{eqb, leb};
+ghost use lib.ListN.{length, getD, set};
+ghost use lib.Dec.{eqb, ltb, leb};
 ghost use Rattle.lists.specs.Lists.{member};
 ghost use Rattle.sheet.specs.Sheet.{required, sheetOf, Sized};
-ghost use Rattle.sheet_required.specs.Whole.{ForcedNodes, FirstArc, RoomListed};
+ghost use Rattle.sheet_required.specs.Whole.{ForcedNodes, RoomListed};
 use sheet::Header;
 use walks::GOALS;
 use walks::MANDATORY;
@@ -29,35 +29,36 @@ fn mark_ends(nodes: &mut [u8], tail: u32, head: u32)
     mark_node(nodes, head as usize);
 }
 
-// Marks the forced nodes with 1, among 64 zeros: source, target and the ends of mandatory arcs. Gives the first mandatory arc, or how many arcs there
-// are where none is mandatory.
-pub fn force_nodes(header: Header, arcs: &[u32], marks: &[u8], forced: &mut [u8]) -> usize
-    requires { ⌜ Sized header (now arcs) (now marks) × (header .nodes ≤ 64) × (now forced ≡ replicate 64 0) ⌝ }
-    ensures { λ r. let S = sheetOf header (now (arcs .entry)) (now (marks .entry)) in
-        ⌜ ForcedNodes S (now (forced .exit)) × FirstArc S r ⌝ }
+// The nodes that every route meets whatever else is marked, marked 1: source, target and the ends of mandatory arcs.
+pub fn forced_nodes(header: Header, arcs: &[u32], marks: &[u8]) -> [u8; NODES]
+    requires { ⌜ Sized header (now arcs) (now marks) ⌝ }
+    ensures { λ r. ⌜ ForcedNodes (sheetOf header (now (arcs .entry)) (now (marks .entry))) r ⌝ }
 {
-    let mut first = header.arcs;
+    let mut forced = [0u8; NODES];
     let mut j = header.arcs;
     while 0 < j {
         j -= 1;
         if marks[header.nodes + j] == MANDATORY {
-            mark_ends(forced, arcs[j * 3], arcs[j * 3 + 1]);
-            first = j;
+            mark_ends(&mut forced, arcs[j * 3], arcs[j * 3 + 1]);
         }
     }
-    mark_node(forced, header.source);
-    mark_node(forced, header.target);
-    first
+    mark_node(&mut forced, header.source);
+    mark_node(&mut forced, header.target);
+    forced
 }
 
-// Whether a node with this mark is required: mandatory and not forced.
-fn is_required(mark: u8, forced: u8) -> bool
-    ensures { λ r. ⌜ r ≡ (eqb mark 1 && not (eqb forced 1)) ⌝ }
+// Whether an item with this mark is required: mandatory, and an arc or a node that is not forced.
+fn is_required(item: usize, nodes: usize, mark: u8, forced: &[u8]) -> bool
+    requires { ⌜ nodes ≤ length (now forced) ⌝ }
+    ensures { λ r. ⌜ r ≡ (eqb mark 1 && not (ltb item nodes && eqb (getD (now (forced .entry)) item 0) 1)) ⌝ }
 {
-    if mark == MANDATORY {
-        return forced != 1;
+    if mark != MANDATORY {
+        return false;
     }
-    false
+    if item < nodes {
+        return forced[item] != 1;
+    }
+    true
 }
 
 // Stores the item behind the `count` that were found before it, where the list has room. Gives how many were found with it.
@@ -96,22 +97,14 @@ pub fn required_items(header: Header, arcs: &[u32], marks: &[u8], list: &mut [us
     if !some_mandatory(marks) {
         return 0;
     }
-    let mut forced = [0u8; NODES];
-    let first = force_nodes(header, arcs, marks, &mut forced);
+    let forced = forced_nodes(header, arcs, marks);
     let mut count: usize = 0;
     let mut i: usize = 0;
-    while i < header.nodes {
-        if is_required(marks[i], forced[i]) {
+    while i < marks.len() {
+        if is_required(i, header.nodes, marks[i], &forced) {
             count = note_item(list, count, i);
         }
         i += 1;
-    }
-    let mut j = first;
-    while j < header.arcs {
-        if marks[header.nodes + j] == MANDATORY {
-            count = note_item(list, count, header.nodes + j);
-        }
-        j += 1;
     }
     count
 }
