@@ -3,7 +3,7 @@
 use Prim.Native.Nat.{ℕ, _+_, _≤_, _<_}
 use mathlib.Core.Path.{_≡_, refl, sym, ap, _∙_}
 use mathlib.Core.Logic.{⊎-elim}
-use mathlib.Core.Bool.{Bool, true, false, not, _&&_, _||_}
+use mathlib.Core.Bool.{Bool, true, false, _&&_, _||_}
 use mathlib.Core.List.{List, [], _∷_, _++_}
 use native.Mathlib.Omega.{arith}
 use lib.ListN.{length, getD}
@@ -11,7 +11,7 @@ use lib.Dec.{eqb, ltb, leb}
 use borrow.Author.Tests.{ltb-true, eqb-true, leb-true}
 use Rattle.lists.specs.Lists.{pick, every, ascends}
 use Rattle.lists.proofs.TestLaws.{and-true, false-of, or-true}
-use Rattle.lists.proofs.MemberLaws.{every-at}
+use Rattle.lists.proofs.MemberLaws.{every-at, place-member}
 use Rattle.lists.proofs.AscendLaws.{ascends-distinct}
 use Rattle.lists.proofs.Pigeonhole.{pigeonhole, below-all}
 use Rattle.walks.specs.Graph.{itemCount}
@@ -23,7 +23,6 @@ use Rattle.slip_reader.specs.Form.{slipFrom}
 use Rattle.sheet_required.proofs.WholeLaws.{items-are}
 use Rattle.check_rules.specs.Check.{goalCount, wellFormed}
 use Rattle.check_claim.specs.Claim.{Claimed}
-use Rattle.check_claim.proofs.ClosingLaws.{entry-member}
 
 pub and-assoc : (a b c : Bool) → ((a && b) && c) ≡ (a && (b && c))
 and-assoc true b c = refl
@@ -112,4 +111,4 @@ formed-asked {h} {arcs} {marks} first goals reasons W w = record {
     P = parts (sheetOf h arcs marks) first goals reasons w
 
     known : (i : ℕ) → i < length goals → getD goals i 0 < h .nodes + h .arcs
-    known i l = omega (arith, ltb-true (getD goals i 0) _ (every-at (λ i. ltb i (itemCount (graphOf (h .nodes) arcs))) goals (getD goals i 0) (P .goals-known) (entry-member goals i l)), items-are W)
+    known i l = omega (arith, ltb-true (getD goals i 0) _ (every-at (λ i. ltb i (itemCount (graphOf (h .nodes) arcs))) goals (getD goals i 0) (P .goals-known) (place-member goals i l)), items-are W)

@@ -1,4 +1,4 @@
--- The kinds of the goals, and whether a walk clear of the reasons meets them. Assumes nothing.
+-- The kinds of the goals. Assumes nothing.
 use Prim.Native.Nat.{ℕ}
 use mathlib.Core.Path.{_≡_, ap, fun-ext}
 use mathlib.Core.Bool.{Bool, true, false, _&&_}
@@ -6,15 +6,8 @@ use mathlib.Core.List.{List}
 use lib.ListN.{getD}
 use lib.Dec.{eqb}
 use Rattle.lists.specs.Lists.{member, every}
-use Rattle.walks.specs.Graph.{Graph, closedIn, fits}
 use Rattle.sheet.specs.Sheet.{Sheet, isOpen, isMandatory, markOf, required}
 use Rattle.check_rules.specs.Check.{isGoal}
-use Rattle.check_claim.specs.Claim.{Closing}
-
--- what the closing marks close are the reasons
-pub clear-fits : (G : Graph) (s t k : ℕ) {marks reasons : List ℕ} (goals : List ℕ) → Closing reasons marks
-    → fits G s t k (closedIn marks) goals ≡ fits G s t k (λ j. member j reasons) goals
-clear-fits G s t k goals c = ap (λ (closed : ℕ → Bool). fits G s t k closed goals) (fun-ext (c .each))
 
 -- the goals' tests by the first number
 module _ (S : Sheet) (v : ℕ) (goals : List ℕ) where

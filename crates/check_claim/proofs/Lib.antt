@@ -1,3 +1,2 @@
-pub mod ClosingLaws
 pub mod FormLaws
 pub mod GoalLaws

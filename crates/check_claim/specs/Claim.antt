@@ -5,14 +5,8 @@ use mathlib.Core.Bool.{true}
 use mathlib.Core.List.{List}
 use lib.ListN.{length}
 use Rattle.lists.specs.Lists.{member}
-use Rattle.walks.specs.Graph.{closedIn}
 use Rattle.item_fits.specs.Asked.{Sought}
 use Rattle.sheet.specs.declared.Header.{Header}
-
--- marks of 576 items that close the listed ones and no other
-pub record Closing (reasons marks : List ℕ) : Type 0 where
-  pub size : length marks ≡ 576
-  pub each : (j : ℕ) → closedIn marks j ≡ member j reasons
 
 -- goals and reasons for which a least length can be asked, whatever is closed
 pub record Claimed (h : Header) (arcs goals reasons : List ℕ) : Type 0 where

@@ -1,8 +1,8 @@
 // What a slip says of a sheet (document 01, 'The operations and what they refuse', check): whether its goals and reasons are well formed and of their
-// kinds on the sheet, and the marks by which its reasons are closed.
+// kinds on the sheet.
 ghost use mathlib.Core.Path.{_≡_};
 ghost use mathlib.Core.Bool.{true, _&&_};
-ghost use Prim.Native.Nat.{ℕ, _+_, _≤_, _<_};
+ghost use Prim.Native.Nat.{_+_, _≤_, _<_};
 ghost use lib.ListN.{getD};
 ghost use lib.Dec.{eqb};
 ghost use Rattle.lists.specs.Lists.{member, every};
@@ -11,11 +11,9 @@ ghost use Rattle.sheet.specs.Sheet.{Sheet, isForbidden, required, sheetOf};
 ghost use Rattle.sheet_required.specs.Whole.{Whole};
 ghost use Rattle.slip_reader.specs.Form.{slipFrom};
 ghost use Rattle.check_rules.specs.Check.{goalCount, wellFormed, isGoal};
-ghost use Rattle.check_claim.specs.Claim.{Closing};
 use sheet::Header;
 use walks::FORBIDDEN;
 use walks::GOALS;
-use walks::ITEMS;
 use walks::MANDATORY;
 use walks::OPEN;
 
@@ -122,19 +120,4 @@ pub fn kinds_hold(
         return goals_hold(header, arcs, marks, first, goals);
     }
     false
-}
-
-// Marks by which the listed items are closed and all else is open.
-pub fn closing(reasons: &[usize]) -> [u8; ITEMS]
-    requires { ⌜ ((j : ℕ) → member j (now reasons) ≡ true → j < 576) ⌝ }
-    ensures { λ r. ⌜ Closing (now (reasons .entry)) r ⌝ }
-{
-    let mut marks = [0u8; ITEMS];
-    let mut i = reasons.len();
-    while 0 < i {
-        i -= 1;
-        let item = reasons[i];
-        marks[item] = FORBIDDEN;
-    }
-    marks
 }

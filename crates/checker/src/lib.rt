@@ -52,7 +52,7 @@ fn answer_lists(
     if !check_claim::kinds_hold(header, arcs, marks, first, goals, reasons) {
         return check_answer::judged(false);
     }
-    let closed = check_claim::closing(reasons);
+    let closed = closed_marks::closing(reasons);
     check_answer::judged(!item_fits::fits_goals(header, arcs, &closed, goals, scratch))
 }
 

@@ -13,7 +13,7 @@ use Rattle.varint.specs.Answer.{small}
 use Rattle.sheet.specs.Slip.{Slip}
 use Rattle.text_lines.specs.Lines.{line}
 use Rattle.text_lines.proofs.LineLaws.{line-size}
-use Rattle.text_answer.specs.Text.{verdictWord, struckWord, needsWord, becauseWord, standsText, blameText}
+use Rattle.text_answer.specs.Text.{verdictWord, struckWord, needsWord, becauseWord, refusedWord, standsText, blameText, refusedText}
 
 -- one number that has a written form
 pub small-one : (x : ℕ) → x < 268435456 → small (x ∷ []) ≡ true
@@ -32,6 +32,13 @@ unfolding blameText
 blame-size s g h =
     rw (length-append (line verdictWord (s .first ∷ []) ++ line needsWord (s .goals)) (line becauseWord (s .reasons)), length-append (line verdictWord (s .first ∷ [])) (line needsWord (s .goals)))
     (omega (arith, line-size verdictWord (s .first ∷ []), line-size needsWord (s .goals), line-size becauseWord (s .reasons)))
+
+pub refused-size : (e : ℕ) → length (refusedText e) ≤ 8192
+unfolding refusedText
+refused-size e = omega (arith, line-size refusedWord (e ∷ []))
+
+pub refused-fits : (e : ℕ) (out : List ℕ) → 8192 ≤ length out → length (refusedText e) ≤ length out
+refused-fits e out h = omega (arith, refused-size e)
 
 -- a text in front of `out` is a part of it
 pub within : (bs d out : List ℕ) (r : ℕ) → r ≡ length bs → out ≡ front bs d → (r ≤ length out) × (r ≡ length (take r out))

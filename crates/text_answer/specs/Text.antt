@@ -56,10 +56,14 @@ blamed (refuse e) = []
 unfoldable pub slipText : List ℕ → List ℕ → List ℕ
 slipText sheet slip = pick (eqb (verdictIn slip) 0) (standsText (newlyForbidden (marksOf (taken sheet)) slip)) (blamed (readSlip slip))
 
+-- a refusal, by its number
+unfoldable pub refusedText : ℕ → List ℕ
+refusedText e = line refusedWord (e ∷ [])
+
 -- what pass answers to a sheet, as text
 unfoldable pub text : List ℕ → Answer → List ℕ
 text sheet (finished slip) = slipText sheet slip
-text sheet (refused e) = line refusedWord (e ∷ [])
+text sheet (refused e) = refusedText e
 
 -- what pass answers to a sheet and this work, lent a slip of 1,200 bytes
 unfoldable pub answer : List ℕ → List ℕ → Answer

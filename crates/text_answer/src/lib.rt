@@ -1,13 +1,13 @@
-// The lines of what the pass answers to a sheet (document 01, 'The sheet B and what it gives', last paragraph).
+// The lines of what the pass answers to a sheet (document 01, 'The sheet B and what it gives', last paragraph), and of a refusal.
 ghost use mathlib.Core.Path.{_≡_};
 ghost use mathlib.Core.Bool.{true, _&&_};
 ghost use Prim.Native.Nat.{_≤_, _<_};
 ghost use lib.ListN.{length};
 ghost use lib.Dec.{eqb};
-ghost use Rattle.lists.specs.Lists.{front, Put};
+ghost use Rattle.lists.specs.Lists.{Put};
 ghost use Rattle.varint.specs.Answer.{small};
 ghost use Rattle.slip_reader.specs.Form.{slipFrom};
-ghost use Rattle.text_answer.specs.Text.{newlyForbidden, standsText, blameText};
+ghost use Rattle.text_answer.specs.Text.{newlyForbidden, standsText, blameText, refusedText};
 
 // Whether an item is newly forbidden, by its marks on the sheet and in the slip.
 fn is_new(before: u8, after: u8) -> bool
@@ -53,4 +53,13 @@ pub fn put_blame(out: &mut [u8], first: usize, goals: &[usize], reasons: &[usize
     let at = text_lines::put_line(out, b"verdict", &verdict);
     let end = at + text_lines::put_line(&mut out[at..], b"needs", goals);
     end + text_lines::put_line(&mut out[end..], b"because", reasons)
+}
+
+// Writes the text of a refusal.
+pub fn put_refused(out: &mut [u8], why: u32) -> usize
+    requires { ⌜ (why ≤ 27) × (length (refusedText why) ≤ length (now out)) ⌝ }
+    ensures { λ r. ⌜ Put (refusedText why) (now (out .entry)) (now (out .exit)) r ⌝ }
+{
+    let number = [why as usize];
+    text_lines::put_line(out, b"refused", &number)
 }

@@ -1,16 +1,16 @@
 -- Laws of lines: a number's digits by its last one, rows as written number by number, and how long a line is. Assumes nothing.
-use Prim.Native.Nat.{ℕ, zero, suc, _+_, _*_, _/_, _%_, _≤_, _<_}
+use Prim.Native.Nat.{ℕ, zero, suc, _+_, _-_, _*_, _/_, _%_, _≤_, _<_}
 use mathlib.Core.Path.{_≡_, refl, ap, sym, _∙_}
 use mathlib.Core.List.{List, [], _∷_, _++_}
 use mathlib.Core.Bool.{Bool, true, false}
 use native.Mathlib.Omega.{arith}
-use lib.Dec.{ltb}
-use borrow.Author.Tests.{lt-ltb, le-ltb, ltb-true, ltb-false}
+use lib.Dec.{ltb, leb}
+use borrow.Author.Tests.{lt-ltb, le-ltb, ltb-true, ltb-false, le-leb, lt-leb}
 use lib.ListN.{length, set, length-append}
 use Rattle.lists.specs.Lists.{pick, front}
 use Rattle.lists.proofs.FrontLaws.{push-at}
 use Rattle.lists.proofs.RowLaws.{Rows}
-use Rattle.text_lines.specs.Lines.{digits, decimal, spaced, row, line}
+use Rattle.text_lines.specs.Lines.{digits, decimal, spaced, row, line, numberLine, differenceLine, lines}
 
 digits-few : (k n : ℕ) → n < 10 → digits k n ≡ (48 + n) ∷ []
 unfolding digits
@@ -88,3 +88,36 @@ row-size (x ∷ xs) = let q = row-size xs in let d = digits-size 9 x in simp len
 pub line-size : (word xs : List ℕ) → length (line word xs) ≤ length word + 11 * length xs + 1
 unfolding line
 line-size word xs = simp length-append (omega (arith, row-size xs))
+
+-- a difference that is not negative, and one that is
+pub difference-low : (k a : ℕ) → a ≤ k → differenceLine k a ≡ numberLine (k - a)
+unfolding differenceLine
+difference-low k a h = rw (le-leb a k h)
+
+pub difference-high : (k a : ℕ) → k < a → differenceLine k a ≡ 45 ∷ numberLine (a - k)
+unfolding differenceLine
+difference-high k a h = rw (lt-leb a k h)
+
+-- lines are written one by one
+pub line-rows : (f : ℕ → List ℕ) → Rows f (lines f)
+unfolding lines
+line-rows f = record { empty = refl; first = λ x xs. refl }
+
+-- ten digits at most and the line's end, and before them the minus
+pub number-size : (n : ℕ) → length (numberLine n) ≤ 11
+unfolding numberLine decimal
+number-size n = simp length-append (omega (arith, digits-size 9 n))
+
+pub difference-size : (k a : ℕ) → length (differenceLine k a) ≤ 12
+unfolding differenceLine
+difference-size k a = go (leb a k)
+  where
+    go : (t : Bool) → length (pick t (numberLine (k - a)) (45 ∷ numberLine (a - k))) ≤ 12
+    go true = omega (arith, number-size (k - a))
+    go false = omega (arith, number-size (a - k))
+
+-- so many bytes a line, so many in all
+pub lines-size : (f : ℕ → List ℕ) (m : ℕ) → ((x : ℕ) → length (f x) ≤ m) → (xs : List ℕ) → length (lines f xs) ≤ m * length xs
+unfolding lines
+lines-size f m h [] = omega arith
+lines-size f m h (x ∷ xs) = simp length-append (omega (arith, h x, lines-size f m h xs))

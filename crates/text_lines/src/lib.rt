@@ -1,15 +1,17 @@
-// Lines of text: a word and decimal numbers behind it, written over the front of a lent slice.
+// Lines of text, written over the front of a lent slice: a word and decimal numbers behind it, or a number alone.
 ghost use mathlib.Core.Path.{_≡_};
 ghost use mathlib.Core.Bool.{true};
 ghost use Prim.Native.Nat.{_≤_};
 ghost use lib.ListN.{length};
-ghost use Rattle.lists.specs.Lists.{front, Put};
+ghost use Rattle.lists.specs.Lists.{Put};
 ghost use Rattle.varint.specs.Answer.{small};
-ghost use Rattle.text_lines.specs.Lines.{decimal, spaced, row, line};
+ghost use Rattle.text_lines.specs.Lines.{decimal, spaced, row, line, numberLine, differenceLine};
 
 const SPACE: u8 = 32;
 
 const LINE_END: u8 = 10;
+
+const MINUS: u8 = 45;
 
 const DIGIT_ZERO: u32 = 48;
 
@@ -59,4 +61,26 @@ pub fn put_line(out: &mut [u8], word: &[u8], numbers: &[usize]) -> usize
     let end = at + put_row(&mut out[at..], numbers);
     out[end] = LINE_END;
     end + 1
+}
+
+// Writes the number alone on its line.
+pub fn put_number_line(out: &mut [u8], number: u32) -> usize
+    requires { ⌜ length (numberLine number) ≤ length (now out) ⌝ }
+    ensures { λ r. ⌜ Put (numberLine number) (now (out .entry)) (now (out .exit)) r ⌝ }
+{
+    let at = put_decimal(out, number);
+    out[at] = LINE_END;
+    at + 1
+}
+
+// Writes `whole` − `part` alone on its line, behind a minus where it is negative.
+pub fn put_difference_line(out: &mut [u8], whole: u32, part: u32) -> usize
+    requires { ⌜ length (differenceLine whole part) ≤ length (now out) ⌝ }
+    ensures { λ r. ⌜ Put (differenceLine whole part) (now (out .entry)) (now (out .exit)) r ⌝ }
+{
+    if part <= whole {
+        return put_number_line(out, whole - part);
+    }
+    out[0] = MINUS;
+    1 + put_number_line(&mut out[1..], part - whole)
 }

@@ -2,7 +2,7 @@
 use Prim.Native.Nat.{ℕ, _≤_, _<_}
 use mathlib.Core.Path.{_≡_, refl, sym, ap, _∙_}
 use mathlib.Core.Bool.{Bool, true, false}
-use mathlib.Core.List.{List, [], _∷_}
+use mathlib.Core.List.{List, []}
 use native.Mathlib.Omega.{arith}
 use lib.ListN.{length, take, drop, length-append}
 use lib.Seq.{take-at}
@@ -18,9 +18,7 @@ use Rattle.sheet.specs.Answer.{Answer, finished, refused, answerOf}
 use Rattle.pass_rules.specs.Pass.{Outcome, outcome, lentEnough, passOn, passed}
 use Rattle.pass_rules.specs.Verdict.{verdict, passSlip}
 use Rattle.pass_rules.proofs.AcceptedLaws.{accepted-taken}
-use Rattle.text_lines.specs.Lines.{line}
-use Rattle.text_lines.proofs.LineLaws.{line-size}
-use Rattle.text_answer.specs.Text.{refusedWord, slipText, text, answer}
+use Rattle.text_answer.specs.Text.{refusedText, slipText, text, answer}
 
 -- a refusal of the sheet is one of 3 to 13
 pass-refuses : (sheet : List ℕ) (x : ℕ) → passOn sheet ≡ refused x → Among x
@@ -47,14 +45,10 @@ answer-finishes sheet work bs e = go (ltb (length work) workNumbers) e
     go true z = absurd (let y : _≡_ {A = ℕ} 0 1 = cc in omega arith)
     go false z = z
 
--- a line of one number fits
-pub line-fits : (word : List ℕ) (x : ℕ) (out : List ℕ) → length word ≤ 100 → 8192 ≤ length out → length (line word (x ∷ [])) ≤ length out
-line-fits word x out h room = omega (arith, line-size word (x ∷ []))
-
 -- a refused call
 pub record Refused (sheet work : List ℕ) (n : ℕ) : Type 0 where
   pub high : n ≤ 13
-  pub printed : text sheet (answer sheet work) ≡ line refusedWord (n ∷ [])
+  pub printed : text sheet (answer sheet work) ≡ refusedText n
 
 -- a finished call, by the first l bytes of the lent slip
 pub record Finished (sheet work s : List ℕ) (l : ℕ) : Type 0 where

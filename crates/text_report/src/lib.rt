@@ -76,8 +76,7 @@ pub fn report(sheet: &[u8], work: &mut [u32], out: &mut [u8]) -> usize
     let mut slip = [0u8; pass::SLIP_BYTES];
     let answer = pass::pass(sheet, work, &mut slip);
     if 0 < answer.number {
-        let number = [answer.number as usize];
-        return text_lines::put_line(out, b"refused", &number);
+        return text_answer::put_refused(out, answer.number);
     }
     let length = answer.length;
     put_slip_text(sheet, &slip[..length], out)

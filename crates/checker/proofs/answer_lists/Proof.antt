@@ -11,7 +11,7 @@ use Rattle.slip_reader.specs.Form.{slipFrom, valuesAt}
 use Rattle.check_answer.specs.declared.CheckAnswer.{CheckAnswer}
 use Rattle.check_answer.specs.Answer.{checkAnswerOf}
 use Rattle.check_claim.proofs.FormLaws.{formed-asked}
-use Rattle.check_claim.proofs.GoalLaws.{clear-fits}
+use Rattle.closed_marks.proofs.ClosingLaws.{clear-fits}
 use Rattle.check_claim.specs.Claim.{Claimed}
 use Rattle.check_rules.specs.Check.{wellFormed, judgedOn}
 use Rattle.checker.specs.Written.{formOf}

@@ -1,12 +1,10 @@
 -- `report` prints what its call of pass answers: the refusal's line, or the text of the slip. Assumes nothing.
 use borrow.Author.Needs.{needs}
 use native.Mathlib.Omega.{arith}
-use Rattle.text_answer.proofs.LineParts.{small-one, within}
-use Rattle.text_lines.specs.Lines.{line}
-use Rattle.text_answer.specs.Text.{refusedWord, slipText}
-use mathlib.Core.List.{[], _∷_}
+use Rattle.text_answer.proofs.LineParts.{refused-fits, within}
+use Rattle.text_answer.specs.Text.{refusedText, slipText}
 use lib.ListN.{take}
-use Rattle.text_report.proofs.AnswerLaws.{line-fits, work-left, refused-call, finished-call}
+use Rattle.text_report.proofs.AnswerLaws.{work-left, refused-call, finished-call}
 use Rattle.text_report.proofs.report.Statement.{statement}
 use Rattle.text_report.proofs.report.Tie as tie
 
@@ -16,21 +14,11 @@ slice-aggregate-pass c = search needs
 pass-requires : tie.Need-pass-requires
 pass-requires c κs = search needs
 
-cast-t14 : tie.Need-cast-t14
-cast-t14 c = search needs
-
-slice-aggregate-put-line : tie.Need-slice-aggregate-put-line
-slice-aggregate-put-line c = search needs
-
-slice-aggregate-put-line-2 : tie.Need-slice-aggregate-put-line-2
-slice-aggregate-put-line-2 c = search needs
-
-put-line-requires : tie.Need-put-line-requires
-put-line-requires c κs =
-    let s = c .before .before .before .before .before .before .before .before .before .before .before .before .before .before .before in
-    let p = c .before .before .before .before .before .before .before .before .before .pass in
-    let r = refused-call (s .args .sheet .now) (s .args .work .now) _ (omega arith) _ _ _ _ (p .ensures) (c .before .before .before .before .if1 .taken) in
-    (small-one _ (omega (arith, r .high)), line-fits refusedWord _ (s .args .out .now) (omega arith) (s .pre))
+put-refused-requires : tie.Need-put-refused-requires
+put-refused-requires c κs =
+    let s = c .before .before .before .before .before .before .before .before .before .before .before .before in
+    let r = refused-call (s .args .sheet .now) (s .args .work .now) _ (omega arith) _ _ _ _ (c .before .before .before .before .before .before .pass .ensures) (c .before .if1 .taken) in
+    (omega (arith, r .high), refused-fits _ (s .args .out .now) (s .pre))
 
 same-length : tie.Need-same-length
 same-length c = search needs
@@ -40,11 +28,11 @@ same-length-2 c = search needs
 
 returns : tie.Need-returns
 returns c =
-    let s = c .before .before .before .before .before .before .before .before .before .before .before .before .before .before .before .before .before .before in
-    let p = c .before .before .before .before .before .before .before .before .before .before .before .before .pass in
-    let r = refused-call (s .args .sheet .now) (s .args .work .now) _ (omega arith) _ _ _ _ (p .ensures) (c .before .before .before .before .before .before .before .if1 .taken) in
-    let w = c .before .before .put-line .ensures in
-    rw (r .printed) (w .0, (w .1, (work-left (s .args .sheet .now) (s .args .work .now) _ (omega arith) _ _ _ _ (p .ensures), within (line refusedWord (p .result .number ∷ [])) _ _ _ (w .0) (w .1))))
+    let s = c .before .before .before .before .before .before .before .before .before .before .before .before .before .before .before in
+    let p = c .before .before .before .before .before .before .before .before .before .pass in
+    let r = refused-call (s .args .sheet .now) (s .args .work .now) _ (omega arith) _ _ _ _ (p .ensures) (c .before .before .before .before .if1 .taken) in
+    let w = c .before .before .put-refused .ensures in
+    rw (r .printed) (w .0, (w .1, (work-left (s .args .sheet .now) (s .args .work .now) _ (omega arith) _ _ _ _ (p .ensures), within (refusedText (p .result .number)) _ _ _ (w .0) (w .1))))
 
 array-share-prefix-slip : tie.Need-array-share-prefix-slip
 array-share-prefix-slip c =
@@ -84,10 +72,7 @@ report-spec =
     (tie.spec
     slice-aggregate-pass
     pass-requires
-    cast-t14
-    slice-aggregate-put-line
-    slice-aggregate-put-line-2
-    put-line-requires
+    put-refused-requires
     same-length
     same-length-2
     returns

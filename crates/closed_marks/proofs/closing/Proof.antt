@@ -1,14 +1,15 @@
--- `check_claim::closing` meets its contract. The invariant: the items from i on are closed. Assumes nothing.
+-- `closed_marks::closing` meets its contract. The invariant: the items from i on are closed. Assumes nothing.
 use native.Mathlib.Omega.{arith}
-use Rattle.check_claim.proofs.ClosingLaws.{ClosingFrom, entry-member, closing-begun, closing-more, closing-done}
-use Rattle.check_claim.proofs.closing.Statement.{statement}
-use Rattle.check_claim.proofs.closing.Tie as tie
+use Rattle.lists.proofs.MemberLaws.{place-member}
+use Rattle.closed_marks.proofs.ClosingLaws.{ClosingFrom, closing-begun, closing-more, closing-done}
+use Rattle.closed_marks.proofs.closing.Statement.{statement}
+use Rattle.closed_marks.proofs.closing.Tie as tie
 
 abbrev Inv-loop : tie.InvT-loop
-Inv-loop reasons marks₀ i₀ marks i = ClosingFrom reasons marks i
+Inv-loop list marks₀ i₀ marks i = ClosingFrom list marks i
 
 abbrev μ-loop : tie.MeasureT-loop
-μ-loop reasons marks₀ i₀ marks i = i
+μ-loop list marks₀ i₀ marks i = i
 
 loop-holds : tie.Need-loop-holds Inv-loop μ-loop
 loop-holds c = closing-begun _
@@ -23,7 +24,7 @@ shared-slice-read-item : tie.Need-shared-slice-read-item Inv-loop μ-loop
 shared-slice-read-item c = omega arith
 
 array-write-marks : tie.Need-array-write-marks Inv-loop μ-loop
-array-write-marks c = c .before .before .before .pre _ (entry-member _ _ (omega (arith, c .before .before .loop .inv .within)))
+array-write-marks c = c .before .before .before .pre _ (place-member _ _ (omega (arith, c .before .before .loop .inv .within)))
 
 loop-less : tie.Need-loop-less Inv-loop μ-loop
 loop-less c = omega arith

@@ -1,4 +1,4 @@
--- `ways::read_input` is safe and ends, and what it answers is -1 or a count within the input: each turn of the loop but the last reads something, so that
+-- `program_input::read_input` is safe and ends, and what it answers is -1 or a count within the input: each turn of the loop but the last reads something, so that
 -- what is left of the input gets shorter. Assumes nothing.
 use Prim.Native.Nat.{ℕ, _≤_, _-_}
 use mathlib.Core.Path.{_≡_, sym, subst}
@@ -9,8 +9,8 @@ use mir.ValLaws.{toZ-pos}
 use Rattle.libc.specs.Io.{Moved}
 use borrow.Author.Needs.{needs}
 use native.Mathlib.Omega.{arith}
-use Rattle.ways.proofs.read_input.Statement.{statement}
-use Rattle.ways.proofs.read_input.Tie as tie
+use Rattle.program_input.proofs.read_input.Statement.{statement}
+use Rattle.program_input.proofs.read_input.Tie as tie
 
 -- a count within the input is an answer of a read
 counted : (n : ℕ) → n ≤ 8192 → Moved 8192 (toZ w64 n)
