@@ -107,7 +107,7 @@ blocks-again S list goals later T b L d = (
 )
 
 -- a pruned item is met by no walk
-pruned-unmet : (S : Sheet) (i : ℕ) → isPruned S i ≡ true → fitsSheet S (i ∷ []) ≡ false
+pub pruned-unmet : (S : Sheet) (i : ℕ) → isPruned S i ≡ true → fitsSheet S (i ∷ []) ≡ false
 unfolding isPruned
 pruned-unmet S i p = not-true (fitsSheet S (i ∷ [])) (and-true (isOpen S i) (not (fitsSheet S (i ∷ []))) p .1)
 

@@ -18,7 +18,7 @@ use Rattle.walks.specs.Lengths.{lesser, within}
 use Rattle.reason_rules.specs.Reason.{prunes, reasonIn, reasonOn}
 
 -- the sheet B with a limit and the marks of its four nodes and five arcs
-pub sheetB : ℕ → List ℕ → List ℕ
+unfoldable pub sheetB : ℕ → List ℕ → List ℕ
 sheetB k marks =
     0x04 ∷ 0x05 ∷ 0x00 ∷ 0x03 ∷ k ∷ 0x00 ∷ 0x01 ∷ 0x04 ∷ 0x01 ∷ 0x03 ∷ 0x04 ∷ 0x00 ∷ 0x02 ∷ 0x03 ∷ 0x02 ∷ 0x03 ∷ 0x09 ∷ 0x01 ∷ 0x02 ∷ 0x01 ∷ marks
 

@@ -1,4 +1,4 @@
--- A sheet that is not taken draws one of 3 to 13. Assumes nothing.
+-- A number or a sheet that is not taken draws one of 3 to 13. Assumes nothing.
 use Prim.Native.Nat.{ℕ, zero, suc, _+_, _≤_}
 use mathlib.Core.Path.{_≡_}
 use mathlib.Core.Bool.{Bool, true, false, _&&_}
@@ -107,10 +107,14 @@ complete-refusing S [] = go (leb (length (required S)) 8)
     go true = tt
     go false = (omega arith, omega arith)
 
+refusing-among : {A : Type 0} (r : Read A) (w : ℕ) → Refusing r → r ≡ refuse w → Among w
+refusing-among (got a bs) w p e = absurd (let z : _≡_ {A = ℕ} 0 1 = cc in omega arith)
+refusing-among (refuse v) w p e = let z : v ≡ w = cc in rw z at p
+
+pub number-refuses : (bs : List ℕ) (w : ℕ) → readNumber bs ≡ refuse w → Among w
+unfolding readNumber
+number-refuses bs w e = refusing-among (readNumber bs) w (groups-refusing 3 bs) e
+
 pub taken-refuses : (bs : List ℕ) (w : ℕ) → taken bs ≡ refuse w → Among w
 unfolding taken
-taken-refuses bs w e = go (taken bs) e (after-refusing (readSheet bs) complete (sheet-refusing bs) complete-refusing)
-  where
-    go : (r : Read Sheet) → r ≡ refuse w → Refusing r → Among w
-    go (got S rest) q p = absurd (let z : _≡_ {A = ℕ} 0 1 = cc in omega arith)
-    go (refuse v) q p = let z : v ≡ w = cc in rw z at p
+taken-refuses bs w e = refusing-among (taken bs) w (after-refusing (readSheet bs) complete (sheet-refusing bs) complete-refusing) e

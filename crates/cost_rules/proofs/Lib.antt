@@ -1,0 +1,2 @@
+pub mod SheetB
+pub mod CostLaws

@@ -1,0 +1,130 @@
+-- From what the calls leave to what the tool prints: reason's slip, the list that it has, and the number in front. Assumes nothing.
+use Prim.Native.Nat.{ℕ, _-_, _≤_, _<_}
+use mathlib.Core.Path.{_≡_, refl, sym, ap, _∙_}
+use mathlib.Core.List.{List, [], _∷_}
+use native.Mathlib.Omega.{arith}
+use lib.ListN.{length, take, drop, length-append, length-drop}
+use lib.Seq.{take-at, take-all}
+use Rattle.lists.specs.Lists.{front, Put}
+use Rattle.varint.specs.Varint.{got, refuse, after, readNumber}
+use Rattle.walks.specs.Graph.{itemCount}
+use Rattle.sheet.proofs.SlipLaws.{Small, slip-back}
+use Rattle.sheet.specs.Answer.{Answer, finished, refused, answerOf, Wrote, wrote}
+use Rattle.sheet.specs.Good.{Good}
+use Rattle.sheet.specs.Reader.{taken}
+use Rattle.sheet.specs.Sheet.{Sheet}
+use Rattle.sheet.specs.Slip.{Slip, slipBytes, readSlip}
+use Rattle.reason_list.proofs.ReasonLaws.{reasons-closed}
+use Rattle.pass_rules.proofs.AcceptedLaws.{accepted-taken}
+use Rattle.pass_rules.proofs.SlipOfPass.{slip-small}
+use Rattle.pass_rules.proofs.WithinLaws.{Within}
+use Rattle.pass_rules.specs.Verdict.{reasonsFor, slipFor}
+use Rattle.reason_rules.proofs.AnswerLaws.{Finished as Explained, reason-finished}
+use Rattle.reason_rules.specs.Reason.{reasonOn}
+use Rattle.slip_reader.specs.Form.{slipFrom, valuesAt, slipOf, SlipCounts}
+use Rattle.slip_reader.specs.declared.SlipForm.{SlipForm}
+use Rattle.slip_reader.specs.declared.SlipRead.the-variants.{Got as SlipGot, Refused as SlipRefused}
+use Rattle.closed_marks.specs.Closing.{Markable}
+use Rattle.cost_rules.proofs.CostLaws.{for-refuses, for-finishes}
+use Rattle.cost_rules.specs.Cost.{costLines, costFor, costOn, textOf, costText}
+use Rattle.text_answer.proofs.LineParts.{within}
+use Rattle.text_answer.specs.Text.{refusedText}
+
+-- what a call that writes left, by its number: a refusal
+pub record Refused (a : Answer) (n : ℕ) : Type 0 where
+  pub low : n ≤ 16
+  pub is : a ≡ refused n
+
+-- or the bytes that stand in front of the slice
+pub record Finished (a : Answer) (s : List ℕ) (l : ℕ) : Type 0 where
+  pub is : a ≡ finished (take l s)
+  pub within : l ≤ length s
+  pub size : l ≡ length (take l s)
+
+module _ (a : Answer) (d : List ℕ) (n l : ℕ) (s : List ℕ) (e : record { number = n; length = l; out = s } ≡ wrote a d) (w : Within a) where
+  pub refused-call : 0 < n → Refused a n
+  unfolding wrote
+  refused-call h = go a refl w (ap (λ (o : Wrote). o .number) e)
+    where
+      go : (b : Answer) → a ≡ b → Within b → n ≡ wrote b d .number → Refused a n
+      go (finished bs) q v z = absurd (omega (arith, z))
+      go (refused x) q v z = record { low = omega (arith, z, v .1); is = q ∙ ap refused (sym z) }
+
+  pub finished-call : n ≤ 0 → Finished a s l
+  unfolding wrote
+  finished-call h = go a refl w e
+    where
+      go : (b : Answer) → a ≡ b → Within b → record { number = n; length = l; out = s } ≡ wrote b d → Finished a s l
+      go (refused x) q v z = absurd (omega (arith, ap (λ (o : Wrote). o .number) z, v .0))
+      go (finished bs) q v z =
+          let k : l ≡ length bs = ap (λ (o : Wrote). o .length) z in
+          let f : s ≡ front bs d = ap (λ (o : Wrote). o .out) z in
+          let t : take l s ≡ bs = rw f (take-at bs _ l (sym k)) in
+          record {
+            is = q ∙ ap finished (sym t);
+            within = omega (arith, k, ap length f ∙ length-append bs (drop (length bs) d));
+            size = k ∙ ap length (sym t);
+          }
+
+-- where reason refuses, so does the tool
+pub refused-text : (sheet : List ℕ) (i n : ℕ) → reasonOn sheet i ≡ refused n → textOf (answerOf (costFor i sheet)) ≡ refusedText n
+unfolding textOf
+refused-text sheet i n e = rw (for-refuses sheet i n .1 e)
+
+-- what the slip's reader gives of the slip for an item: its list
+pub record Listed (S : Sheet) (i : ℕ) (slip : List ℕ) (f : SlipForm) : Type 0 where
+  pub count : length (reasonsFor S (i ∷ [])) ≡ f .reasons
+  pub many : f .reasons ≤ 576
+  pub is : valuesAt slip (f .reasons) (f .«reasons_at») ≡ reasonsFor S (i ∷ [])
+
+module _ (S : Sheet) (g : Good S) (i : ℕ) (h : i < itemCount (S .graph)) (slip : List ℕ) (e : slipBytes (slipFor S 4 (i ∷ [])) ≡ slip) where
+  small : Small (slipFor S 4 (i ∷ []))
+  small = slip-small S g 4 (i ∷ []) (omega arith) (omega arith) (omega arith) (h, tt)
+
+  reads : readSlip slip ≡ got (slipFor S 4 (i ∷ [])) []
+  reads = ap readSlip (sym e) ∙ slip-back (slipFor S 4 (i ∷ [])) small
+
+  pub never-unformed : slipOf slip SlipRefused ≡ readSlip slip → ⊥
+  never-unformed u = let y : _≡_ {A = ℕ} 0 1 = cc reads in omega arith
+
+  pub listed : (f : SlipForm) → slipOf slip (SlipGot f) ≡ readSlip slip → SlipCounts slip (SlipGot f) → Listed S i slip f
+  unfolding slipFor
+  listed f u n =
+      let s : slipFrom (f .first) (valuesAt slip (f .goals) (f .«goals_at»)) (valuesAt slip (f .reasons) (f .«reasons_at»)) ≡ slipFor S 4 (i ∷ []) = cc reads in
+      let l : valuesAt slip (f .reasons) (f .«reasons_at») ≡ reasonsFor S (i ∷ []) = ap (λ (s : Slip). s .reasons) s in
+      let k : length (reasonsFor S (i ∷ [])) ≡ f .reasons = ap length (sym l) ∙ n .1 in
+      record { count = k; many = omega (arith, k, small .many); is = l }
+
+-- listed closures are items
+pub listed-markable : (S : Sheet) → Good S → (goals : List ℕ) → Markable (reasonsFor S goals)
+unfolding reasonsFor
+listed-markable S g goals j m = omega (arith, reasons-closed (S .graph) (S .source) (S .target) (S .limit) goals (S .marks) j m .1, g .nodes, g .arcs)
+
+-- the whole input, by what its number is
+pub read-text : (input : List ℕ) (i next : ℕ) → next ≤ length input → got i (drop next input) ≡ readNumber input
+    → textOf (answerOf (costFor i (take (length input - next) (drop next input)))) ≡ costText input
+unfolding costText costOn after
+read-text input i next h e =
+    let t : take (length input - next) (drop next input) ≡ drop next input = take-all (length input - next) (drop next input) (simp length-drop (omega arith)) in
+    rw (t, ← e)
+
+pub unread-text : (input : List ℕ) (n : ℕ) → refuse n ≡ readNumber input → refusedText n ≡ costText input
+unfolding costText costOn after answerOf textOf
+unread-text input n e = rw (← e)
+
+-- a text in other words; it stands in front of `out` and is a part of it
+pub printed : {xs text : List ℕ} (d out : List ℕ) (r : ℕ) → xs ≡ text → Put xs d out r → Put text d out r × ((r ≤ length out) × (r ≡ length (take r out)))
+printed {xs} {text} d out r e w = let v : Put text d out r = rw (← e) w in (v, within text d out r (v .0) (v .1))
+
+-- where reason finished, the sheet is taken and the item is pruned
+pub never-refused : (sheet slip : List ℕ) (i w : ℕ) → reasonOn sheet i ≡ finished slip → taken sheet ≡ refuse w → ⊥
+unfolding reasonOn answerOf after
+never-refused sheet slip i w e t = let y = rw (accepted-taken sheet, t) at e in let z : _≡_ {A = ℕ} 0 1 = cc in omega arith
+
+pub explained : (sheet slip : List ℕ) (i : ℕ) (S : Sheet) → taken sheet ≡ got S [] → reasonOn sheet i ≡ finished slip → Explained S i slip
+explained sheet slip i S t e = reason-finished sheet S i slip (accepted-taken sheet ∙ t) e
+
+pub finished-text : (sheet slip : List ℕ) (i : ℕ) (S : Sheet) → taken sheet ≡ got S [] → reasonOn sheet i ≡ finished slip
+    → textOf (answerOf (costFor i sheet)) ≡ costLines S i (reasonsFor S (i ∷ []))
+unfolding textOf
+finished-text sheet slip i S t e = rw (for-finishes sheet slip i S (accepted-taken sheet ∙ t) e)
