@@ -47,8 +47,8 @@ extern "C" {
 #endif
 
 /* The version of this header and of the answers it describes: 100 times the first number plus the
- * second, so 200 is 2.0. CHANGELOG.md says what each version changed. */
-#define WAYS_VERSION 200
+ * second, so 201 is 2.1. CHANGELOG.md says what each version changed. */
+#define WAYS_VERSION 201
 
 #define WAYS_WORK_BYTES 65536u /* what the work must have */
 #define WAYS_SLIP_BYTES 1200u  /* what the slip of ways_pass and ways_reason must have */
