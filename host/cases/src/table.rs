@@ -1,4 +1,4 @@
-//! The lines of document 01, 'The sheet B and what it gives', and those that request 2.3 adds.
+//! The lines of document 01, 'The sheet B and what it gives', and those that requests 2.3 and 2.4 add.
 
 use crate::written::{sheet_b, Sheet, FORBIDDEN, MANDATORY};
 
@@ -115,5 +115,24 @@ pub fn formats() -> Vec<(Vec<u8>, usize, u32)> {
         (with_required(8).bytes(), 1_200, 0),
         (with_required(9).bytes(), 1_200, 13),
         (Sheet::new(2, 0, 1, 99, &[[0, 1, 1]; 9]).with_marks(2..11, MANDATORY).bytes(), 1_200, 13),
+    ]
+}
+
+/// What `cost` reads, and what it prints.
+pub fn costs() -> Vec<(Vec<u8>, &'static str)> {
+    let b = sheet_b();
+    let bytes = b.bytes();
+    vec![
+        (b.asked_for(2), "-4\n"),
+        (b.asked_for(8), "-6\n"),
+        (b.with_limit(12).with_mark(4, FORBIDDEN).asked_for(1), "none\n8\n"),
+        (b.with_limit(14).with_marks([5, 8], FORBIDDEN).asked_for(1), "none\n8\n14\n"),
+        (b.with_mark(6, FORBIDDEN).asked_for(2), "-6\n"),
+        (b.asked_for(1), "refused 16\n"),
+        (b.asked_for(9), "refused 15\n"),
+        ([b.asked_for(9), vec![0]].concat(), "refused 12\n"),
+        (vec![], "refused 3\n"),
+        ([vec![0x82, 0], bytes].concat(), "refused 4\n"),
+        (vec![2], "refused 3\n"),
     ]
 }

@@ -46,6 +46,11 @@ impl Sheet {
     pub fn bytes(&self) -> Vec<u8> {
         numbers(&self.numbers())
     }
+
+    /// What `cost` reads: the number of an item, and the sheet behind it.
+    pub fn asked_for(&self, item: usize) -> Vec<u8> {
+        [number(item as u32), self.bytes()].concat()
+    }
 }
 
 /// A number in groups of seven bits, in its shortest form.

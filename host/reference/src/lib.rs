@@ -1,9 +1,9 @@
-//! A second implementation of pass, reason, check and the writer, written from document 01 and requests 2.1 and 2.3, to hold the proved library to. Points that
-//! these leave open are settled as docs/DECISIONS.md has them, so a fault there would be in both.
+//! A second implementation of pass, reason, check, the writer and the texts of the programs `ways` and `cost`, written from document 01 and requests 2.1, 2.3 and
+//! 2.4, to hold the proved library and programs to. Points that these leave open are settled as docs/DECISIONS.md has them, so a fault there would be in both.
 //!
-//! It shares no code with the library. What differs: the library holds lengths up to the limit alone, and puts rows of them back where an opening is not kept. Here
+//! It shares no code with the library. What differs: the library holds lengths up to a cap alone, mostly the limit, and puts rows of them back where an opening is not kept. Here
 //!
-//! - lengths are whole 64-bit numbers that know no limit;
+//! - lengths are whole 64-bit numbers that know no cap;
 //! - the list of reasons never undoes anything. With the lengths *from* each goal and *to* each goal, the pairs that an opening would give follow from the lengths
 //!   at the opened item: only an item that stays open is put into the graph, and the lengths are mended from there;
 //! - the writer judges nothing: it writes the numbers and has the reader judge the bytes.
@@ -20,9 +20,10 @@ mod operations;
 mod reasons;
 mod sheet;
 mod slip;
+mod text;
 mod tour;
 
 pub use operations::{check, pass, reason, write_sheet, SLIP_BYTES, WORK_BYTES};
 pub use sheet::{Arc, Sheet};
-pub use slip::program;
+pub use text::{cost, program};
 pub use tour::least;

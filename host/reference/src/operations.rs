@@ -113,15 +113,7 @@ impl Pass<'_> {
 
     /// Some walk clear of the forbidden items meets the item within the limit (source document 002, propositions 1 and 2).
     fn fits(&self, item: usize) -> bool {
-        let (from, to) = (&self.lengths.from[0], &self.lengths.to[0]);
-        let length = match item.checked_sub(self.sheet.nodes) {
-            None => from[item] + to[item],
-            Some(arc) => {
-                let arc = self.sheet.arcs[arc];
-                from[arc.tail as usize] + u64::from(arc.weight) + to[arc.head as usize]
-            }
-        };
-        self.sheet.marks[item] != FORBIDDEN && length <= self.sheet.limit
+        self.sheet.marks[item] != FORBIDDEN && self.lengths.through_item(self.sheet, item) <= self.sheet.limit
     }
 
     /// The verdict and its goals. For verdict 3 the goals are in the lengths already.
@@ -178,7 +170,8 @@ fn pass_on(sheet: &Sheet, slip: &mut [u8]) -> usize {
     Slip { first: verdict, goals, reasons }.write(slip)
 }
 
-fn reason_on(sheet: &Sheet, slip: &mut [u8], item: usize) -> Result<usize, Refusal> {
+/// The closures that pruned an item, or 15 or 16.
+pub fn reasons_for(sheet: &Sheet, item: usize) -> Result<Vec<usize>, Refusal> {
     if item >= sheet.items() {
         return Err(NO_ITEM);
     }
@@ -186,10 +179,13 @@ fn reason_on(sheet: &Sheet, slip: &mut [u8], item: usize) -> Result<usize, Refus
     if !pass.is_pruned(item) || pass.verdict().0 != 0 {
         return Err(NOT_PRUNED);
     }
-    let goals = vec![item];
-    pass.lengths.add_goals(sheet, &pass.graph, &goals);
-    let reasons = reasons(sheet, &mut pass.graph, &mut pass.lengths);
-    Ok(Slip { first: PRUNED, goals, reasons }.write(slip))
+    pass.lengths.add_goals(sheet, &pass.graph, &[item]);
+    Ok(reasons(sheet, &mut pass.graph, &mut pass.lengths))
+}
+
+fn reason_on(sheet: &Sheet, slip: &mut [u8], item: usize) -> Result<usize, Refusal> {
+    let reasons = reasons_for(sheet, item)?;
+    Ok(Slip { first: PRUNED, goals: vec![item], reasons }.write(slip))
 }
 
 fn check_on(sheet: &Sheet, slip: &[u8]) -> Result<bool, Refusal> {

@@ -1,12 +1,9 @@
-//! Slips: what they say, their bytes, and the program's text about a sheet.
+//! Slips: what they say, and their bytes.
 
 use crate::number::{write, Reader};
-use crate::operations::{pass, Refusal, LENGTHS, SLIP_BYTES, WORK_BYTES};
-use crate::sheet::{Sheet, FORBIDDEN, OPEN};
-use std::fmt::Write;
+use crate::operations::Refusal;
 
 const SLIP: Refusal = 17;
-const MOST_INPUT: usize = 8_192;
 
 /// The slip of a refused route or of a pruned item.
 #[derive(Clone, Debug, PartialEq, Eq)]
@@ -52,30 +49,4 @@ fn read_list(reader: &mut Reader) -> Result<Vec<usize>, Refusal> {
         list.push(reader.number()? as usize);
     }
     Ok(list)
-}
-
-/// What the program prints for a standard input.
-pub fn program(input: &[u8]) -> String {
-    let bytes = &input[..input.len().min(MOST_INPUT)];
-    let mut slip = vec![0; SLIP_BYTES];
-    let number = pass(bytes, &mut vec![0; WORK_BYTES], &mut slip);
-    if number >= LENGTHS {
-        return format!("refused {}\n", number / LENGTHS);
-    }
-    match Slip::read(&slip[..number as usize]) {
-        Ok(refused) => format!("verdict {}\n{}{}", refused.first, line("needs", &refused.goals), line("because", &refused.reasons)),
-        Err(_) => {
-            let sheet = Sheet::read(bytes).expect("pass took it");
-            let pruned: Vec<usize> = (0..sheet.items()).filter(|&item| sheet.marks[item] == OPEN && slip[item + 1] == FORBIDDEN).collect();
-            format!("verdict 0\n{}", line("struck", &pruned))
-        }
-    }
-}
-
-fn line(word: &str, items: &[usize]) -> String {
-    let mut text = word.to_string();
-    for item in items {
-        write!(text, " {item}").expect("text takes text");
-    }
-    text + "\n"
 }

@@ -72,6 +72,12 @@ impl Lengths {
         pairs
     }
 
+    /// The least length of a walk that meets one item. The caller sees to it that it is no closed arc.
+    pub fn through_item(&self, sheet: &Sheet, item: usize) -> u64 {
+        let Point { entry, exit, own } = Point::of(sheet, item);
+        self.from[0][entry] + own + self.to[0][exit]
+    }
+
     /// The least length of a walk that meets the goals, given the lengths between pairs.
     pub fn through_goals(&self, pairs: &Pairs) -> u64 {
         let goals = self.points.len() - 1;

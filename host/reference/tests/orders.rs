@@ -111,6 +111,7 @@ fn try_sheets(kind: Kind, sheets: usize) {
     }
     println!("{kind:?}: {:?}", trial.counts);
     assert!(trial.counts.verdicts.iter().all(|&count| count > 0), "a verdict is missing");
+    assert!(trial.counts.over > 0 && trial.counts.with_choice > 0, "no item over the limit, or none with a choice of closures");
 }
 
 #[test]

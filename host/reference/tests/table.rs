@@ -1,7 +1,7 @@
-//! The reference on the lines of document 01, 'The sheet B and what it gives', and on those of request 2.3.
+//! The reference on the lines of document 01, 'The sheet B and what it gives', and on those of requests 2.3 and 2.4.
 
-use cases::{checks, driven, eight_and_nine, formats, sheet_b, starred, Line, Sheet, FORBIDDEN, MANDATORY};
-use reference::{check, pass, program, reason, SLIP_BYTES, WORK_BYTES};
+use cases::{checks, costs, driven, eight_and_nine, formats, sheet_b, starred, Line, Sheet, FORBIDDEN, MANDATORY};
+use reference::{check, cost, pass, program, reason, SLIP_BYTES, WORK_BYTES};
 
 const REFUSED: u32 = 65_536;
 
@@ -76,4 +76,11 @@ fn the_program() {
     assert_eq!(program(&b.with_mark(1, FORBIDDEN).bytes()), "verdict 1\nneeds\nbecause 1\n");
     assert_eq!(program(&b.with_limit(14).with_marks([1, 6], MANDATORY).bytes()), "verdict 3\nneeds 1 6\nbecause\n");
     assert_eq!(program(&[]), "refused 3\n");
+}
+
+#[test]
+fn what_a_closure_costs() {
+    for (input, text) in costs() {
+        assert_eq!(cost(&input), text, "{input:?}");
+    }
 }

@@ -1,4 +1,4 @@
-//! The reference on small sheets against document 01 and request 2.3 taken at their word: every walk is tried.
+//! The reference on small sheets against document 01 and requests 2.3 and 2.4 taken at their word: every walk is tried.
 
 mod by_definition;
 
@@ -131,4 +131,5 @@ fn small_sheets_by_every_walk() {
     assert!(trial.counts.verdicts.iter().all(|&count| count > SHEETS / 100), "a verdict is rare");
     assert!(trial.counts.with_reasons[1..].iter().all(|&count| count > SHEETS / 500), "reasons are rare");
     assert!(trial.counts.with_arcs > SHEETS / 100, "arcs as goals are rare");
+    assert!(trial.counts.over > SHEETS / 100 && trial.counts.with_choice > SHEETS / 100, "items over the limit, or with a choice of closures, are rare");
 }

@@ -1,7 +1,8 @@
-//! Pass, reason and check as document 01 and request 2.3 define them, each closure and each item tried anew, over any test whether a walk fits.
+//! Pass, reason, check and what `cost` prints as document 01 and requests 2.3 and 2.4 define them, each closure and each item tried anew, over any test whether a
+//! walk fits.
 
 use cases::{numbers, Sheet, Slip, FORBIDDEN, MANDATORY, OPEN};
-use reference::{check, pass, reason, SLIP_BYTES, WORK_BYTES};
+use reference::{check, cost, pass, reason, SLIP_BYTES, WORK_BYTES};
 
 const REFUSED: u32 = 65_536;
 const MOST_REQUIRED: usize = 8;
@@ -86,13 +87,39 @@ fn pass_slip(sheet: &Sheet, fits: Fits) -> Result<Vec<u8>, u32> {
     Ok(numbers(&[0].into_iter().chain(marks).collect::<Vec<_>>()))
 }
 
-fn reason_slip(sheet: &Sheet, fits: Fits, passed: &[u8], item: usize) -> Result<Vec<u8>, u32> {
+/// The closures listed for an item; none where the pass, which gave its slip, does not prune it.
+fn reasons_for(sheet: &Sheet, fits: Fits, passed: &[u8], item: usize) -> Option<Vec<usize>> {
     let pruned = passed[0] == 0 && sheet.marks[item] == OPEN && passed[item + 1] == 2;
-    if pruned {
-        Ok(slip(4, &[item], &reasons(sheet, fits, &[item])))
-    } else {
-        Err(16 * REFUSED)
+    pruned.then(|| reasons(sheet, fits, &[item]))
+}
+
+/// The least length of a walk clear of the closed items that meets an item: the least limit within which one fits. A shortest one drives no arc more than twice, once
+/// before it meets the item and once behind.
+fn least_through(sheet: &Sheet, fits: Fits, closed: &[bool], item: usize) -> Option<u32> {
+    let fits_within = |limit| fits(&sheet.with_limit(limit), closed, &[item]);
+    let (mut low, mut high) = (0, 2 * sheet.arcs.iter().map(|arc| arc[2]).sum::<u32>());
+    if !fits_within(high) {
+        return None;
     }
+    while low < high {
+        let middle = (low + high) / 2;
+        if fits_within(middle) {
+            high = middle;
+        } else {
+            low = middle + 1;
+        }
+    }
+    Some(low)
+}
+
+fn cost_text(sheet: &Sheet, fits: Fits, item: usize, listed: &[usize]) -> String {
+    let slack = least_through(sheet, fits, &forbidden(sheet), item).map(|length| i64::from(sheet.limit) - i64::from(length));
+    let lengths = listed.iter().map(|&opened| {
+        let closed: Vec<bool> = (0..sheet.marks.len()).map(|other| other != opened && listed.contains(&other)).collect();
+        least_through(sheet, fits, &closed, item).map(i64::from)
+    });
+    let lines = [slack].into_iter().chain(lengths);
+    lines.map(|number| number.map_or("none".to_string(), |number| number.to_string()) + "\n").collect()
 }
 
 /// What came up.
@@ -104,6 +131,10 @@ pub struct Counts {
     /// slips of a verdict 3 that have an arc among their goals
     pub with_arcs: usize,
     pub pruned: usize,
+    /// pruned items that some walk meets, too long
+    pub over: usize,
+    /// pruned items with two or more closures listed, each of which would do
+    pub with_choice: usize,
     /// sheets with too many required items
     pub refused: usize,
 }
@@ -136,13 +167,20 @@ impl Trial {
         answer.ok()
     }
 
-    /// Tries reason, after the pass gave its slip.
+    /// Tries reason, and what `cost` prints, after the pass gave its slip.
     pub fn reason(&mut self, sheet: &Sheet, passed: &[u8], item: usize) {
         let number = reason(&sheet.bytes(), &mut self.work, &mut self.slip, item as u32);
         let answer = self.finished(number);
-        assert_eq!(answer, reason_slip(sheet, self.fits, passed, item), "{sheet:?} {item}");
+        let text = cost(&sheet.asked_for(item));
+        let listed = reasons_for(sheet, self.fits, passed, item);
+        let expected = listed.as_ref().map(|listed| slip(4, &[item], listed)).ok_or(16 * REFUSED);
+        assert_eq!(answer, expected, "{sheet:?} {item}");
+        let expected = listed.map_or("refused 16\n".to_string(), |listed| cost_text(sheet, self.fits, item, &listed));
+        assert_eq!(text, expected, "{sheet:?} {item}");
         if let Ok(slip) = answer {
             self.counts.pruned += 1;
+            self.counts.over += usize::from(text.starts_with('-'));
+            self.counts.with_choice += usize::from(text.lines().count() > 2);
             self.note(sheet, &slip);
         }
     }
