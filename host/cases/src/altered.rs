@@ -1,7 +1,7 @@
 //! Slips that are altered in every way.
 
 use crate::random::Random;
-use crate::written::{number, numbers, Sheet, MANDATORY};
+use crate::written::{number, numbers, numbers_in, Sheet, MANDATORY};
 
 /// The numbers of a slip with first number 1 to 4. They need not keep to the rules.
 #[derive(Clone, Debug)]
@@ -38,19 +38,6 @@ impl Slip {
     fn with_reasons(&self, reasons: Vec<u32>) -> Slip {
         Slip { reasons, ..self.clone() }
     }
-}
-
-fn numbers_in(bytes: &[u8]) -> Vec<u32> {
-    let (mut all, mut value, mut shift) = (vec![], 0, 0);
-    for &byte in bytes {
-        value |= u32::from(byte & 127) << shift;
-        shift += 7;
-        if byte < 128 {
-            all.push(value);
-            (value, shift) = (0, 0);
-        }
-    }
-    all
 }
 
 /// The slip's bytes with one thing changed, in every way: each entry left out, doubled, moved or exchanged, items put in, other goals of a 3, another first number,

@@ -12,4 +12,4 @@ pub use draft::{spoiled, Draft};
 pub use draw::{damaged, draw, Kind, KINDS};
 pub use random::Random;
 pub use table::{checks, costs, driven, eight_and_nine, formats, starred, with_required, Line};
-pub use written::{number, numbers, sheet_b, Sheet, FORBIDDEN, MANDATORY, OPEN};
+pub use written::{behind_closures, number, numbers, numbers_in, sheet_b, Sheet, FORBIDDEN, MANDATORY, OPEN};

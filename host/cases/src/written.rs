@@ -48,8 +48,8 @@ impl Sheet {
     }
 
     /// What `cost` reads: the number of an item, and the sheet behind it.
-    pub fn asked_for(&self, item: usize) -> Vec<u8> {
-        [number(item as u32), self.bytes()].concat()
+    pub fn asked_for(&self, item: u32) -> Vec<u8> {
+        [number(item), self.bytes()].concat()
     }
 }
 
@@ -68,7 +68,33 @@ pub fn numbers(values: &[u32]) -> Vec<u8> {
     values.iter().flat_map(|&value| number(value)).collect()
 }
 
+/// The numbers in bytes that are well written.
+pub fn numbers_in(bytes: &[u8]) -> Vec<u32> {
+    let (mut all, mut value, mut shift) = (vec![], 0, 0);
+    for &byte in bytes {
+        value |= u32::from(byte & 127) << shift;
+        shift += 7;
+        if byte < 128 {
+            all.push(value);
+            (value, shift) = (0, 0);
+        }
+    }
+    all
+}
+
 /// The sheet B of document 01.
 pub fn sheet_b() -> Sheet {
     Sheet::new(4, 0, 3, 8, &[[0, 1, 4], [1, 3, 4], [0, 2, 3], [2, 3, 9], [1, 2, 1]])
+}
+
+/// A sheet of 64 nodes and 512 arcs, and a node on it that only forbidden arcs enter, 385 of them side by side. To open any one of them would do, so all are listed.
+/// The other nodes lie in a ring with arcs both ways.
+pub fn behind_closures() -> (Sheet, u32) {
+    let (node, across, ring) = (63, 31, 0..63);
+    let along = ring.flat_map(|tail| [[tail, (tail + 1) % 63, 10], [(tail + 1) % 63, tail, 10]]);
+    let closures = (1..=385).map(|minutes| [across, node, minutes]);
+    let arcs: Vec<[u32; 3]> = along.chain([[node, across, 10]]).chain(closures).collect();
+    let sheet = Sheet::new(64, 0, 62, 1_100, &arcs);
+    let items = sheet.marks.len();
+    (sheet.with_marks(items - 385..items, FORBIDDEN), node)
 }

@@ -1,17 +1,34 @@
-//! The files of `samples/`: each sheet has a text beside it with its bytes and with what the program prints, and both are true. So is what docs/FORMATS.md says
-//! of them, and of a sheet made by hand.
+//! The files of `samples/`: each sheet, and each item number with a sheet, has a text beside it with its bytes and with what is printed for it, and both are true. So
+//! is what docs/FORMATS.md says of them, of the tool, and of a sheet made by hand.
 
-use std::path::{Path, PathBuf};
-use tests::{hex, Desk};
+use std::path::PathBuf;
+use tests::{hex, samples, Desk};
 
 const FORMATS: &str = include_str!("../../../docs/FORMATS.md");
 
-fn sheets() -> Vec<PathBuf> {
-    let folder = Path::new(concat!(env!("CARGO_MANIFEST_DIR"), "/../../samples"));
-    let files = std::fs::read_dir(folder).expect("the folder of samples");
-    let mut sheets: Vec<PathBuf> = files.map(|file| file.expect("a file").path()).filter(|path| path.extension().is_some_and(|x| x == "sheet")).collect();
-    sheets.sort();
-    sheets
+struct Sample {
+    path: PathBuf,
+    bytes: Vec<u8>,
+    /// the line of its text above what is printed
+    heading: &'static str,
+    printed: String,
+}
+
+fn with_ending(ending: &str, heading: &'static str, text: fn(&[u8]) -> String) -> Vec<Sample> {
+    let paths = samples(ending).into_iter();
+    let read = |path: PathBuf| {
+        let bytes = std::fs::read(&path).expect("a sample");
+        Sample { heading, printed: text(&bytes), path, bytes }
+    };
+    paths.map(read).collect()
+}
+
+fn sheets() -> Vec<Sample> {
+    with_ending("sheet", "The program prints", reference::program)
+}
+
+fn costs() -> Vec<Sample> {
+    with_ending("cost", "The tool prints", reference::cost)
 }
 
 /// The indented lines that a text begins with.
@@ -26,28 +43,44 @@ fn below(text: &str, heading: &str) -> String {
 
 #[test]
 fn samples_say_what_they_are() {
-    let sheets = sheets();
-    assert!(sheets.len() >= 5);
-    let mut desk = Desk::new(1);
-    for path in sheets {
-        let bytes = std::fs::read(&path).expect("a sheet");
-        let text = std::fs::read_to_string(path.with_extension("txt")).expect("a text beside the sheet");
-        desk.pass(&bytes);
-        assert_eq!(below(&text, "The program prints").trim_end(), reference::program(&bytes).trim_end(), "{}", path.display());
+    let (sheets, costs) = (sheets(), costs());
+    assert!(sheets.len() >= 5 && !costs.is_empty());
+    for Sample { path, bytes, heading, printed } in sheets.into_iter().chain(costs) {
+        let text = std::fs::read_to_string(path.with_extension("txt")).expect("a text beside the sample");
+        assert_eq!(below(&text, heading), printed, "{}", path.display());
         let written = below(&text, "Bytes, in hex");
         assert_eq!(written.split_whitespace().collect::<Vec<_>>().join(" "), hex(&bytes), "{}", path.display());
     }
 }
 
+/// The library beside the reference, which says what is printed.
+#[test]
+fn the_library_on_samples() {
+    let mut desk = Desk::new(1);
+    for Sample { bytes, .. } in sheets() {
+        desk.pass(&bytes);
+    }
+    for Sample { bytes, .. } in costs() {
+        assert!(bytes[0] < 128, "an item number of one byte");
+        desk.reason(&bytes[1..], bytes[0].into()).expect("a struck item");
+    }
+}
+
 #[test]
 fn formats_name_every_sample() {
-    for path in sheets() {
+    for Sample { path, printed, .. } in sheets().into_iter().chain(costs()) {
         let name = path.file_stem().expect("a name").to_string_lossy();
         let row = FORMATS.lines().find(|line| line.starts_with(&format!("| `{name}` |"))).expect("a row for the sample");
-        let printed = reference::program(&std::fs::read(&path).expect("a sheet"));
         let printed = printed.lines().map(|line| format!("`{line}`")).collect::<Vec<_>>().join(", ");
         assert!(row.ends_with(&format!("| {printed} |")), "{row}");
     }
+}
+
+#[test]
+fn formats_ask_the_tool() {
+    let b = sheets().into_iter().find(|sample| sample.path.ends_with("b.sheet")).expect("the sheet B");
+    let (_, text) = FORMATS.split_once("printf '\\2' | cat - samples/b.sheet | target/bin/cost\n\nprints\n\n").expect("the command");
+    assert_eq!(indented(text), reference::cost(&[vec![2], b.bytes].concat()));
 }
 
 #[test]

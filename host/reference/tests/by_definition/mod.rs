@@ -171,7 +171,7 @@ impl Trial {
     pub fn reason(&mut self, sheet: &Sheet, passed: &[u8], item: usize) {
         let number = reason(&sheet.bytes(), &mut self.work, &mut self.slip, item as u32);
         let answer = self.finished(number);
-        let text = cost(&sheet.asked_for(item));
+        let text = cost(&sheet.asked_for(item as u32));
         let listed = reasons_for(sheet, self.fits, passed, item);
         let expected = listed.as_ref().map(|listed| slip(4, &[item], listed)).ok_or(16 * REFUSED);
         assert_eq!(answer, expected, "{sheet:?} {item}");
