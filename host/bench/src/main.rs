@@ -4,8 +4,11 @@
 //!
 //! With `WAYS_BEFORE` set to the path of an earlier `libplanner.a`, that one takes its turns too, both loaded alike, and the last column is the present
 //! library's time in terms of the earlier one's. Where that one cannot make the call, or answers otherwise, a row ends before its columns.
+//!
+//! With `WAYS_PROGRAM` and `COST_PROGRAM` set to the paths of the programs, a second table has the times of these.
 
 mod loaded;
+mod processes;
 mod sheets;
 
 use loaded::Loaded;
@@ -97,18 +100,23 @@ fn alike<'a>(all: &'a [Timed], standard: &Standard, lent: &mut Lent) -> &'a [Tim
     &all[..count]
 }
 
-/// The medians, in microseconds.
-fn time(all: &[Timed], standard: &Standard, lent: &mut Lent) -> Vec<f64> {
-    let calls: Vec<u32> = all.iter().map(|timed| warm_up(timed, standard, lent)).collect();
-    let mut samples = vec![vec![]; all.len()];
-    for turn in 0..SAMPLES {
-        for step in 0..all.len() {
+/// The medians of samples that so many take in turn.
+fn medians(count: usize, turns: usize, mut sample: impl FnMut(usize) -> f64) -> Vec<f64> {
+    let mut samples = vec![vec![]; count];
+    for turn in 0..turns {
+        for step in 0..count {
             // there and back again: a call is quicker or slower by what ran before it
-            let at = if turn % 2 == 0 { step } else { all.len() - 1 - step };
-            samples[at].push(sample(&all[at], standard, lent, calls[at]));
+            let at = if turn % 2 == 0 { step } else { count - 1 - step };
+            samples[at].push(sample(at));
         }
     }
     samples.into_iter().map(median).collect()
+}
+
+/// The medians, in microseconds.
+fn time(all: &[Timed], standard: &Standard, lent: &mut Lent) -> Vec<f64> {
+    let calls: Vec<u32> = all.iter().map(|timed| warm_up(timed, standard, lent)).collect();
+    medians(all.len(), SAMPLES, |at| sample(&all[at], standard, lent, calls[at]))
 }
 
 /// A time with one decimal, or with three where it is under a microsecond.
@@ -136,4 +144,5 @@ fn main() {
         }
         println!();
     }
+    processes::table();
 }
