@@ -65,8 +65,9 @@ impl Trial {
 #[test]
 fn what_request_2_4_prints() {
     let Some(program) = program() else { return };
+    let mut trial = Trial::new(program);
     for (input, text) in costs() {
-        assert_eq!(program.printed(&[&input]), text, "{}", hex(&input));
+        assert_eq!(trial.try_input(&input), text, "{}", hex(&input));
     }
 }
 
@@ -160,7 +161,7 @@ fn many_closures() {
     assert!(trial.try_input(&sheet.asked_for(item)).lines().count() > 300);
 }
 
-/// A row of 64 nodes from source to target in one step and on, and an arc back: the way to the last node goes over all of them.
+/// Source, target and 62 more nodes in a row, and arcs back: the way to the last node goes over all of them, and the way home begins there.
 #[test]
 fn far_over_the_limit() {
     let Some(program) = program() else { return };
