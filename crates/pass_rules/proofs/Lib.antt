@@ -5,3 +5,4 @@ pub mod RouteLaws
 pub mod MetLaws
 pub mod Demand2
 pub mod WithinLaws
+pub mod WroteLaws

@@ -4,7 +4,7 @@ ghost use mathlib.Core.Bool.{true};
 ghost use Prim.Native.Nat.{_≤_};
 ghost use lib.ListN.{length};
 ghost use lib.Dec.{leb};
-ghost use Rattle.lists.specs.Lists.{front, Put};
+ghost use Rattle.lists.specs.Lists.{Put};
 ghost use Rattle.varint.specs.Answer.{small};
 ghost use Rattle.sheet.specs.Draft.{draftOf, draftSheet, headerNumbers, sheetBytes};
 ghost use Rattle.sheet.specs.Writer.{headerFault, arcFault, arcsFault, marksFault, requiredFault, draftFault, sheetWritten};

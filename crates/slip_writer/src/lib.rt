@@ -4,7 +4,7 @@ ghost use mathlib.Core.Bool.{true};
 ghost use mathlib.Core.List.{_∷_};
 ghost use Prim.Native.Nat.{_≤_};
 ghost use lib.ListN.{length};
-ghost use Rattle.lists.specs.Lists.{front, Put};
+ghost use Rattle.lists.specs.Lists.{Put};
 ghost use Rattle.varint.specs.Answer.{small};
 ghost use Rattle.sheet.specs.Slip.{slipNumbers, slipBytes};
 ghost use Rattle.slip_reader.specs.Form.{listBytes, slipFrom};

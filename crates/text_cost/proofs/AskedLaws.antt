@@ -1,15 +1,15 @@
 -- From what the calls leave to what the tool prints: reason's slip, the list that it has, and the number in front. Assumes nothing.
 use Prim.Native.Nat.{ℕ, _-_, _≤_, _<_}
-use mathlib.Core.Path.{_≡_, refl, sym, ap, _∙_}
+use mathlib.Core.Path.{_≡_, sym, ap, _∙_}
 use mathlib.Core.List.{List, [], _∷_}
 use native.Mathlib.Omega.{arith}
-use lib.ListN.{length, take, drop, length-append, length-drop}
-use lib.Seq.{take-at, take-all}
-use Rattle.lists.specs.Lists.{front, Put}
+use lib.ListN.{length, take, drop, length-drop}
+use lib.Seq.{take-all}
+use Rattle.lists.specs.Lists.{Put}
 use Rattle.varint.specs.Varint.{got, refuse, after, readNumber}
 use Rattle.walks.specs.Graph.{itemCount}
 use Rattle.sheet.proofs.SlipLaws.{Small, slip-back}
-use Rattle.sheet.specs.Answer.{Answer, finished, refused, answerOf, Wrote, wrote}
+use Rattle.sheet.specs.Answer.{finished, refused, answerOf}
 use Rattle.sheet.specs.Good.{Good}
 use Rattle.sheet.specs.Reader.{taken}
 use Rattle.sheet.specs.Sheet.{Sheet}
@@ -17,7 +17,6 @@ use Rattle.sheet.specs.Slip.{Slip, slipBytes, readSlip}
 use Rattle.reason_list.proofs.ReasonLaws.{reasons-closed}
 use Rattle.pass_rules.proofs.AcceptedLaws.{accepted-taken}
 use Rattle.pass_rules.proofs.SlipOfPass.{slip-small}
-use Rattle.pass_rules.proofs.WithinLaws.{Within}
 use Rattle.pass_rules.specs.Verdict.{reasonsFor, slipFor}
 use Rattle.reason_rules.proofs.AnswerLaws.{Finished as Explained, reason-finished}
 use Rattle.reason_rules.specs.Reason.{reasonOn}
@@ -29,42 +28,6 @@ use Rattle.cost_rules.proofs.CostLaws.{for-refuses, for-finishes}
 use Rattle.cost_rules.specs.Cost.{costLines, costFor, costOn, textOf, costText}
 use Rattle.text_answer.proofs.LineParts.{within}
 use Rattle.text_answer.specs.Text.{refusedText}
-
--- what a call that writes left, by its number: a refusal
-pub record Refused (a : Answer) (n : ℕ) : Type 0 where
-  pub low : n ≤ 16
-  pub is : a ≡ refused n
-
--- or the bytes that stand in front of the slice
-pub record Finished (a : Answer) (s : List ℕ) (l : ℕ) : Type 0 where
-  pub is : a ≡ finished (take l s)
-  pub within : l ≤ length s
-  pub size : l ≡ length (take l s)
-
-module _ (a : Answer) (d : List ℕ) (n l : ℕ) (s : List ℕ) (e : record { number = n; length = l; out = s } ≡ wrote a d) (w : Within a) where
-  pub refused-call : 0 < n → Refused a n
-  unfolding wrote
-  refused-call h = go a refl w (ap (λ (o : Wrote). o .number) e)
-    where
-      go : (b : Answer) → a ≡ b → Within b → n ≡ wrote b d .number → Refused a n
-      go (finished bs) q v z = absurd (omega (arith, z))
-      go (refused x) q v z = record { low = omega (arith, z, v .1); is = q ∙ ap refused (sym z) }
-
-  pub finished-call : n ≤ 0 → Finished a s l
-  unfolding wrote
-  finished-call h = go a refl w e
-    where
-      go : (b : Answer) → a ≡ b → Within b → record { number = n; length = l; out = s } ≡ wrote b d → Finished a s l
-      go (refused x) q v z = absurd (omega (arith, ap (λ (o : Wrote). o .number) z, v .0))
-      go (finished bs) q v z =
-          let k : l ≡ length bs = ap (λ (o : Wrote). o .length) z in
-          let f : s ≡ front bs d = ap (λ (o : Wrote). o .out) z in
-          let t : take l s ≡ bs = rw f (take-at bs _ l (sym k)) in
-          record {
-            is = q ∙ ap finished (sym t);
-            within = omega (arith, k, ap length f ∙ length-append bs (drop (length bs) d));
-            size = k ∙ ap length (sym t);
-          }
 
 -- where reason refuses, so does the tool
 pub refused-text : (sheet : List ℕ) (i n : ℕ) → reasonOn sheet i ≡ refused n → textOf (answerOf (costFor i sheet)) ≡ refusedText n

@@ -2,7 +2,7 @@
 ghost use mathlib.Core.Path.{_≡_};
 ghost use Prim.Native.Nat.{_+_, _≤_, _<_};
 ghost use lib.ListN.{length, drop};
-ghost use Rattle.lists.specs.Lists.{front, Put};
+ghost use Rattle.lists.specs.Lists.{Put};
 ghost use Rattle.varint.specs.Varint.{readNumber, writeNumber};
 ghost use Rattle.varint.specs.Answer.{readOf, endOf};
 

@@ -1,10 +1,11 @@
 -- `put_answer` prints what its call of reason answers: the refusal, or the lines. Assumes nothing.
 use borrow.Author.Needs.{needs}
 use native.Mathlib.Omega.{arith}
+use Rattle.pass_rules.proofs.WroteLaws.{Refused, refused-call, Finished, finished-call}
 use Rattle.reason_rules.proofs.WithinLaws.{reason-within}
 use Rattle.reason_rules.specs.Reason.{reasonOn}
 use Rattle.text_answer.proofs.LineParts.{refused-fits}
-use Rattle.text_cost.proofs.AskedLaws.{Refused, refused-call, Finished, finished-call, refused-text}
+use Rattle.text_cost.proofs.AskedLaws.{refused-text}
 use Rattle.text_cost.proofs.put_answer.Statement.{statement}
 use Rattle.text_cost.proofs.put_answer.Tie as tie
 
@@ -22,7 +23,7 @@ reason-sheet-requires : tie.Need-reason-sheet-requires
 reason-sheet-requires c κs = search needs
 
 put-refused-requires : tie.Need-put-refused-requires
-put-refused-requires c κs = (omega (arith, refuses (c .before) .low), refused-fits _ (c .before .before .before .before .before .before .before .before .args .out .now) (c .before .before .before .before .before .before .before .before .pre))
+put-refused-requires c κs = (omega (arith, refuses (c .before) .high), refused-fits _ (c .before .before .before .before .before .before .before .before .args .out .now) (c .before .before .before .before .before .before .before .before .pre))
 
 same-length : tie.Need-same-length
 same-length c = search needs
