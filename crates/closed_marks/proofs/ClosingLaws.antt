@@ -1,5 +1,5 @@
 -- Marks by which the listed items are closed: they are closed from the last to the first, and one may be opened again. Assumes nothing.
-use Prim.Native.Nat.{ℕ, zero, suc, _-_, _≤_, _<_}
+use Prim.Native.Nat.{ℕ, suc, _-_, _≤_, _<_}
 use mathlib.Core.Path.{_≡_, refl, sym, ap, _∙_, fun-ext}
 use mathlib.Core.Bool.{Bool, true, false, not, _&&_}
 use mathlib.Core.List.{List, [], _∷_}
@@ -8,9 +8,9 @@ use lib.ListN.{length, getD, drop, set, length-set, replicate, drop-of-length-le
 use lib.Seq.{drop-cons, getD-set-same, getD-set-other}
 use lib.Dec.{eqb}
 use borrow.Author.Tests.{eqb-true, eqb-false}
-use Rattle.lists.specs.Lists.{member}
+use Rattle.lists.specs.Lists.{pick, member}
+use Rattle.lists.proofs.FrontLaws.{zeros-at}
 use Rattle.lists.proofs.MemberLaws.{place-member}
-use Rattle.walks.proofs.OpenedLaws.{open-same, open-other}
 use Rattle.walks.specs.Graph.{Graph, closedIn, least, fits}
 use Rattle.walks.specs.Lengths.{Least, within}
 use Rattle.reason_list.specs.Reasons.{but}
@@ -21,11 +21,6 @@ pub record ClosingFrom (list marks : List ℕ) (i : ℕ) : Type 0 where
   pub within : i ≤ length list
   pub closed : Closing (λ j. member j (drop i list)) marks
 
-nothing-closed : (k j : ℕ) → closedIn (replicate k 0) j ≡ false
-nothing-closed zero j = refl
-nothing-closed (suc k) zero = refl
-nothing-closed (suc k) (suc j) = nothing-closed k j
-
 at-end : (n : ℕ) → n ≤ n
 at-end n = omega arith
 
@@ -33,16 +28,16 @@ pub closing-begun : (list : List ℕ) → ClosingFrom list (replicate 576 0) (le
 unfolding member
 closing-begun list = record {
   within = omega arith;
-  closed = record { size = refl; each = λ j. nothing-closed 576 j ∙ sym (ap (member j) (drop-of-length-le list (at-end (length list)))) };
+  closed = record { size = refl; each = λ j. zeros-at 576 j ∙ ap (λ (t : Bool). pick t 2 0) (sym (ap (member j) (drop-of-length-le list (at-end (length list))))) };
 }
 
 close-one : (xs marks : List ℕ) (x : ℕ) → x < 576 → Closing (λ j. member j xs) marks → Closing (λ j. member j (x ∷ xs)) (set marks x 2)
 unfolding member
 close-one xs marks x h c = record { size = length-set marks x 2 ∙ c .size; each = λ j. go j (eqb j x) refl }
   where
-    go : (j : ℕ) (t : Bool) → eqb j x ≡ t → closedIn (set marks x 2) j ≡ member j (x ∷ xs)
-    go j true q = let z = eqb-true j x q in rw q (ap (λ (k : ℕ). eqb k 2) (ap (λ (k : ℕ). getD (set marks x 2) k 0) z ∙ getD-set-same marks x 2 0 (omega (arith, c .size))))
-    go j false q = rw q (ap (λ (k : ℕ). eqb k 2) (getD-set-other marks x j 2 0 (eqb-false j x q)) ∙ c .each j)
+    go : (j : ℕ) (t : Bool) → eqb j x ≡ t → getD (set marks x 2) j 0 ≡ pick (member j (x ∷ xs)) 2 0
+    go j true q = rw q (ap (λ (k : ℕ). getD (set marks x 2) k 0) (eqb-true j x q) ∙ getD-set-same marks x 2 0 (omega (arith, c .size)))
+    go j false q = rw q (getD-set-other marks x j 2 0 (eqb-false j x q) ∙ c .each j)
 
 -- one item more, before those that are closed
 pub closing-more : (list marks : List ℕ) (i : ℕ) → 0 < i → Markable list → ClosingFrom list marks i
@@ -70,18 +65,26 @@ and-no true = refl
 and-no false = refl
 
 -- one item open again
-pub open-one : (closed : ℕ → Bool) (marks : List ℕ) (r : ℕ) → Closing closed marks → Closing (but closed r) (set marks r 0)
+pub open-one : (closed : ℕ → Bool) (marks : List ℕ) (r : ℕ) → r < 576 → Closing closed marks → Closing (but closed r) (set marks r 0)
 unfolding but
-open-one closed marks r c = record { size = length-set marks r 0 ∙ c .size; each = λ j. go j (eqb j r) refl }
+open-one closed marks r h c = record { size = length-set marks r 0 ∙ c .size; each = λ j. go j (eqb j r) refl }
   where
-    go : (j : ℕ) (t : Bool) → eqb j r ≡ t → closedIn (set marks r 0) j ≡ (closed j && not (eqb j r))
-    go j true q = let z = eqb-true j r q in rw (q, z, open-same marks r) (sym (and-no (closed r)))
-    go j false q = rw q (open-other marks r j (eqb-false j r q) ∙ c .each j ∙ sym (and-yes (closed j)))
+    go : (j : ℕ) (t : Bool) → eqb j r ≡ t → getD (set marks r 0) j 0 ≡ pick (closed j && not (eqb j r)) 2 0
+    go j true q = rw (q, and-no (closed j)) (ap (λ (k : ℕ). getD (set marks r 0) k 0) (eqb-true j r q) ∙ getD-set-same marks r 0 0 (omega (arith, c .size)))
+    go j false q = rw (q, and-yes (closed j)) (getD-set-other marks r j 0 0 (eqb-false j r q) ∙ c .each j)
+
+-- what the marks close
+closes : {closed : ℕ → Bool} {marks : List ℕ} → Closing closed marks → (j : ℕ) → closedIn marks j ≡ closed j
+closes {closed} c j = rw (c .each j) (go (closed j))
+  where
+    go : (t : Bool) → eqb (pick t 2 0) 2 ≡ t
+    go true = refl
+    go false = refl
 
 -- a walk is clear of what the marks close
 pub clear-least : (G : Graph) (s t : ℕ) {closed : ℕ → Bool} {marks : List ℕ} (goals : List ℕ) → Closing closed marks
     → least G (closedIn marks) goals s t ≡ least G closed goals s t
-clear-least G s t goals c = ap (λ (f : ℕ → Bool). least G f goals s t) (fun-ext (c .each))
+clear-least G s t goals c = ap (λ (f : ℕ → Bool). least G f goals s t) (fun-ext (closes c))
 
 pub clear-fits : (G : Graph) (s t k : ℕ) {closed : ℕ → Bool} {marks : List ℕ} (goals : List ℕ) → Closing closed marks
     → fits G s t k (closedIn marks) goals ≡ fits G s t k closed goals

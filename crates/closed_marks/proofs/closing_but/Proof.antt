@@ -11,7 +11,7 @@ array-write-marks : tie.Need-array-write-marks
 array-write-marks c = search needs
 
 returns : tie.Need-returns
-returns c = open-one _ _ (c .before .before .args .opened) (c .closing .ensures)
+returns c = open-one _ _ (c .before .before .args .opened) (c .before .before .pre .1) (c .closing .ensures)
 
 pub closing-but-spec : {M : Type 1} → statement M
 closing-but-spec = tie.close (tie.spec closing-requires array-write-marks returns)
