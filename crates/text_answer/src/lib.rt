@@ -57,7 +57,7 @@ pub fn put_blame(out: &mut [u8], first: usize, goals: &[usize], reasons: &[usize
 
 // Writes the text of a refusal.
 pub fn put_refused(out: &mut [u8], why: u32) -> usize
-    requires { ⌜ (why ≤ 27) × (length (refusedText why) ≤ length (now out)) ⌝ }
+    requires { ⌜ (why < 268435456) × (length (refusedText why) ≤ length (now out)) ⌝ }
     ensures { λ r. ⌜ Put (refusedText why) (now (out .entry)) (now (out .exit)) r ⌝ }
 {
     let number = [why as usize];

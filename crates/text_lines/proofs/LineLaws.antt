@@ -85,9 +85,16 @@ unfolding row spaced decimal
 row-size [] = omega arith
 row-size (x ∷ xs) = let q = row-size xs in let d = digits-size 9 x in simp length-append (omega arith)
 
-pub line-size : (word xs : List ℕ) → length (line word xs) ≤ length word + 11 * length xs + 1
+line-length : (word xs : List ℕ) → length (line word xs) ≡ length word + length (row xs) + 1
 unfolding line
-line-size word xs = simp length-append (omega (arith, row-size xs))
+line-length word xs = simp length-append (omega arith)
+
+pub line-size : (word xs : List ℕ) → length (line word xs) ≤ length word + 11 * length xs + 1
+line-size word xs = omega (arith, line-length word xs, row-size xs)
+
+-- where a line has room, so has one whose word is as long
+pub line-room : (word other xs out : List ℕ) → length other ≡ length word → length (line word xs) ≤ length out → length (line other xs) ≤ length out
+line-room word other xs out e h = omega (arith, line-length word xs, line-length other xs)
 
 -- a difference that is not negative, and one that is
 pub difference-low : (k a : ℕ) → a ≤ k → differenceLine k a ≡ numberLine (k - a)

@@ -1,7 +1,9 @@
--- `put_refused` writes the word and the number. Assumes nothing.
+-- `put_refused` writes the word and the number. That there is room goes by the word's length alone. Assumes nothing.
 use borrow.Author.Needs.{needs}
+use mathlib.Core.Path.{refl}
 use native.Mathlib.Omega.{arith}
-use Rattle.text_answer.specs.Text.{refusedText}
+use Rattle.text_lines.proofs.LineLaws.{line-room}
+use Rattle.text_answer.specs.Text.{refusedWord, refusedText}
 use Rattle.text_answer.proofs.LineParts.{small-one}
 use Rattle.text_answer.proofs.put_refused.Statement.{statement}
 use Rattle.text_answer.proofs.put_refused.Tie as tie
@@ -14,7 +16,7 @@ slice-aggregate-put-line-2 c = search needs
 
 put-line-requires : tie.Need-put-line-requires
 unfolding refusedText
-put-line-requires c κs = let s = c .before .before .before .before in (small-one _ (omega (arith, s .pre .0)), s .pre .1)
+put-line-requires c κs = let s = c .before .before .before .before in (small-one _ (omega (arith, s .pre .0)), line-room refusedWord _ _ (s .args .out .now) refl (s .pre .1))
 
 same-length : tie.Need-same-length
 same-length c = search needs
