@@ -1,6 +1,6 @@
 -- Check's yes is exactly its rule, in terms of walks; and check says yes to every slip that pass writes for a refused round and reason for a pruned item.
 -- Assumes nothing.
-use Prim.Native.Nat.{ℕ, _+_, _≤_}
+use Prim.Native.Nat.{ℕ, _≤_}
 use mathlib.Core.Path.{_≡_, refl, sym, ap, _∙_, subst}
 use mathlib.Core.Logic.{_⊎_, inl, inr, _↔_}
 use mathlib.Core.Bool.{Bool, true, false, not, _&&_, true≢false}
@@ -13,11 +13,11 @@ use Rattle.lists.proofs.MemberLaws.{every-at, every-all, member-none, member-on
 use Rattle.lists.proofs.Pigeonhole.{Below, below-append}
 use Rattle.lists.proofs.TestLaws.{and-true, true-and, not-true, true-or-false}
 use Rattle.lists.specs.Lists.{pick, member, every, ascends}
-use Rattle.pass_rules.proofs.AcceptedLaws.{accepted-got}
+use Rattle.sheet.proofs.SheetLaws.{taken-got}
 use Rattle.pass_rules.proofs.Demand2.{refuses-is}
 use Rattle.pass_rules.proofs.SlipOfPass.{Goals, verdict-goals, reasons-below, reasons-rise}
 use Rattle.pass_rules.proofs.VerdictLaws.{VerdictIs, verdict-is, one, two, three, stands, refused-goals}
-use Rattle.pass_rules.specs.Accepted.{accepted}
+use Rattle.sheet.specs.Reader.{taken}
 use Rattle.pass_rules.specs.Pass.{Refuses}
 use Rattle.pass_rules.specs.Verdict.{verdict, Verdict, fitsSheet, isPruned, reasonsFor, slipFor}
 use Rattle.reason_rules.proofs.AnswerLaws.{explained}
@@ -115,7 +115,7 @@ rule-holds S s l h w r =
     goal g m (inl q) = absurd (member-none g (rw (no-goals S s (eqb-true (s .first) 1 q) w) at m))
     goal g m (inr q) = let n = eqb-false (s .first) 1 q in is-goal S (s .first) g (omega arith) h (r .goals g m)
 
-module _ (sheet : List ℕ) (S : Sheet) (a : accepted sheet ≡ got S []) where
+module _ (sheet : List ℕ) (S : Sheet) (a : taken sheet ≡ got S []) where
   -- 18 is drawn exactly by a slip that is not well formed
   pub check-forms : (slip : List ℕ) (s : Slip) → readSlip slip ≡ got s [] → (checkOn sheet slip ≡ refuse 18) ↔ (wellFormed S s ≡ false)
   unfolding checkOn judgedOn after
@@ -183,12 +183,12 @@ verdict-kinds S f n = go (verdict S) (verdict-is S) n
     }
     go v (stands s m e) n = absurd (n refl)
 
-module _ (sheet : List ℕ) (S : Sheet) (a : accepted sheet ≡ got S []) where
+module _ (sheet : List ℕ) (S : Sheet) (a : taken sheet ≡ got S []) where
   -- check says yes to what pass writes for a refused round
   pub check-pass : (s : Slip) (r : Refuses sheet s) → checkOn sheet (r .slip) ≡ got true []
   check-pass s r =
       let y = refuses-is sheet S a s r in
-      let f = accepted-got sheet S [] a .0 .few in
+      let f = taken-got sheet S [] a .0 .few in
       let K = verdict-kinds S f (y .0) in
       let w : WellFormed S s = subst (λ (s : Slip). WellFormed S s) (sym (y .1)) (own-formed S (verdict S .number) (verdict S .goals) (verdict-goals S f) (K .count)) in
       let h : Rule S s = subst (λ (s : Slip). Rule S s) (sym (y .1)) (own-rule S (verdict S .number) (verdict S .goals) (refused-goals S (y .0)) (K .kind)) in

@@ -10,7 +10,7 @@ use Rattle.walks.specs.Graph.{itemCount, fits}
 use Rattle.sheet.specs.Sheet.{Sheet, isOpen, isMandatory, isForbidden, required}
 use Rattle.sheet.specs.Slip.{Slip, readSlip}
 use Rattle.sheet.specs.Lent.{workNumbers, zeroed, workAfter}
-use Rattle.pass_rules.specs.Accepted.{accepted}
+use Rattle.sheet.specs.Reader.{taken}
 
 -- goal counts 0, 1, 1 to 8, 1 for first numbers 1, 2, 3, 4
 unfoldable pub goalCount : ℕ → ℕ → Bool
@@ -36,9 +36,9 @@ holds S s =
 unfoldable pub judgedOn : Sheet → Slip → List ℕ → Read Bool
 judgedOn S s rest = pick (wellFormed S s) (got (holds S s) rest) (refuse 18)
 
--- 3 to 14 for the sheet, then 17 and 18 for the slip; yes or no
+-- 3 to 13 for the sheet, then 17 and 18 for the slip; yes or no
 unfoldable pub checkOn : List ℕ → List ℕ → Read Bool
-checkOn sheet slip = after (accepted sheet) (λ S rest. after (readSlip slip) (judgedOn S))
+checkOn sheet slip = after (taken sheet) (λ S rest. after (readSlip slip) (judgedOn S))
 
 -- What a call gives and leaves: the refusal number, 0 where it finished; yes or no; what the work holds. The slip is only read.
 pub record CheckOutcome : Type 0 where

@@ -115,7 +115,7 @@ pub fn check_sheet(sheet: &[u8], slip: &[u8]) -> CheckAnswer
     answer_taken(header, &arcs[..numbers], &marks[..items], slip)
 }
 
-// Check: for every sheet, work and slip what document 01 says, refused ones too. No sheet draws 14 (law `accepted-taken`).
+// Check: for every sheet, work and slip what document 01 says, refused ones too.
 pub fn check(sheet: &[u8], work: &mut [u32], slip: &[u8]) -> CheckAnswer
     ensures { λ r. ⌜ record { number = r .number; yes = r .yes; work = now (work .exit) }
         ≡ checked (now (sheet .entry)) (now (work .entry)) (now (slip .entry)) ⌝ }

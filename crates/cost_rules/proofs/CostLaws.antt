@@ -1,7 +1,7 @@
 -- The promises of request 2.4, over every input: the slack is negative or `none`, each later line a number within the limit, the refusals are those of
 -- reason, and the text has room in 8,192 bytes. A struck item is one that no walk meets within the limit; a listed closure is one whose opening, with all
 -- that is not listed, lets some walk meet it (demand 3). Assumes nothing.
-use Prim.Native.Nat.{ℕ, _+_, _-_, _≤_, _<_}
+use Prim.Native.Nat.{ℕ, _-_, _≤_, _<_}
 use mathlib.Core.Path.{_≡_, refl, sym, ap, _∙_}
 use mathlib.Core.Logic.{_⊎_, inl, inr, _↔_}
 use mathlib.Core.Bool.{Bool, true, false, true≢false}
@@ -20,13 +20,13 @@ use Rattle.sheet.proofs.RefusalLaws.{number-refuses}
 use Rattle.sheet.specs.Answer.{finished, refused, answerOf}
 use Rattle.sheet.specs.Sheet.{Sheet, isForbidden}
 use Rattle.reason_list.specs.Reasons.{but}
-use Rattle.pass_rules.proofs.AcceptedLaws.{accepted-good}
+use Rattle.sheet.proofs.SheetLaws.{taken-good}
 use Rattle.pass_rules.proofs.SlipOfPass.{reasons-count}
-use Rattle.pass_rules.specs.Accepted.{accepted}
+use Rattle.sheet.specs.Reader.{taken}
 use Rattle.pass_rules.specs.Verdict.{fitsSheet, reasonsFor}
 use Rattle.reason_rules.proofs.AnswerLaws.{reason-finished}
 use Rattle.reason_rules.proofs.Demand3.{pruned-unmet, list-minimal}
-use Rattle.reason_rules.proofs.WithinLaws.{Refusal, reason-refuses}
+use Rattle.reason_rules.proofs.WithinLaws.{Refusal, reason-refused}
 use Rattle.reason_rules.specs.Reason.{reasonIn, reasonOn}
 use Rattle.text_lines.proofs.LineLaws.{difference-high, line-size, number-size, difference-size, lines-size}
 use Rattle.text_lines.specs.Lines.{numberLine, lines}
@@ -52,14 +52,14 @@ then-finished (refuse w) slip text e = absurd (let y : _≡_ {A = ℕ} 0 1 = cc 
 -- for an item number that was read, the refusals are those of reason
 pub for-refuses : (sheet : List ℕ) (i e : ℕ) → (answerOf (costFor i sheet) ≡ refused e) ↔ (reasonOn sheet i ≡ refused e)
 unfolding costFor costIn reasonOn answerOf after
-for-refuses sheet i e = go (accepted sheet)
+for-refuses sheet i e = go (taken sheet)
   where
     go : (r : Read Sheet) → (answerOf (after r (costIn i)) ≡ refused e) ↔ (answerOf (after r (reasonIn i)) ≡ refused e)
     go (got S rest) = then-refused (reasonIn i S rest) (costLines S i (reasonsFor S (i ∷ []))) e
     go (refuse w) = (λ z. z, λ z. z)
 
 -- and where reason finishes, so does the tool, with the lines
-pub for-finishes : (sheet slip : List ℕ) (i : ℕ) (S : Sheet) → accepted sheet ≡ got S [] → reasonOn sheet i ≡ finished slip
+pub for-finishes : (sheet slip : List ℕ) (i : ℕ) (S : Sheet) → taken sheet ≡ got S [] → reasonOn sheet i ≡ finished slip
     → answerOf (costFor i sheet) ≡ finished (costLines S i (reasonsFor S (i ∷ [])))
 unfolding costFor costIn reasonOn after
 for-finishes sheet slip i S a e = rw a (then-finished (reasonIn i S []) slip (costLines S i (reasonsFor S (i ∷ []))) (rw a at e))
@@ -81,13 +81,13 @@ cost-refuses input e = (forth (readNumber input), back (readNumber input))
     back r (inl z) = rw z
     back r (inr (i, sheet, z, f)) = rw z (for-refuses sheet i e .1 f)
 
--- so it is one of 3 to 13 or 15 or 16: 1 and 2 do not arise, and no sheet draws 14
+-- so it is one of 3 to 13 or 15 or 16: 1 and 2 do not arise
 pub cost-refusals : (input : List ℕ) (e : ℕ) → costOn input ≡ refused e → Refusal e
 cost-refusals input e z = go (cost-refuses input e .0 z)
   where
     go : Draws (readNumber input) e → Refusal e
     go (inl n) = inl (number-refuses input e n)
-    go (inr (i, sheet, n, f)) = reason-refuses sheet i e f
+    go (inr (i, sheet, n, f)) = reason-refused sheet i e f
 
 -- a length is over k, or missing; or within k
 pub data Over (k : ℕ) : Least → Type 0 where
@@ -140,7 +140,7 @@ opened-each S i list (r ∷ rs) f =
     (a .0 ∷ l .0, (a .1, a .2, l .1), rw (a .1, l .2))
 
 -- asked for an item that the pass strikes off
-module _ (input sheet slip : List ℕ) (i : ℕ) (S : Sheet) (n : readNumber input ≡ got i sheet) (a : accepted sheet ≡ got S []) (e : reasonOn sheet i ≡ finished slip) where
+module _ (input sheet slip : List ℕ) (i : ℕ) (S : Sheet) (n : readNumber input ≡ got i sheet) (a : taken sheet ≡ got S []) (e : reasonOn sheet i ≡ finished slip) where
   pub cost-finishes : costText input ≡ costLines S i (reasonsFor S (i ∷ []))
   unfolding costText textOf costOn after
   cost-finishes = rw (n, for-finishes sheet slip i S a e)
@@ -197,16 +197,16 @@ pub cost-size : (input : List ℕ) → length (costText input) ≤ 8192
 unfolding costText costOn costFor costIn textOf answerOf after
 cost-size input = read (readNumber input)
   where
-    asked : (i : ℕ) (sheet : List ℕ) (r : Read Sheet) → accepted sheet ≡ r → length (textOf (answerOf (after r (costIn i)))) ≤ 8192
+    asked : (i : ℕ) (sheet : List ℕ) (r : Read Sheet) → taken sheet ≡ r → length (textOf (answerOf (after r (costIn i)))) ≤ 8192
     asked i sheet (refuse w) q = refused-size w
     asked i sheet (got S rest) q = item (reasonIn i S rest)
       where
         item : (r : Read (List ℕ)) → length (textOf (answerOf (after r (λ slip. got (costLines S i (reasonsFor S (i ∷ []))))))) ≤ 8192
         item (refuse w) = refused-size w
         item (got slip end) =
-            let g = accepted-good sheet S rest q in
+            let g = taken-good sheet S rest q in
             lines-fit S i (reasonsFor S (i ∷ [])) (omega (arith, reasons-count S (i ∷ []), g .nodes, g .arcs))
 
     read : (r : Read ℕ) → length (textOf (answerOf (after r costFor))) ≤ 8192
     read (refuse w) = refused-size w
-    read (got i sheet) = asked i sheet (accepted sheet) refl
+    read (got i sheet) = asked i sheet (taken sheet) refl

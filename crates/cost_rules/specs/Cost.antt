@@ -9,7 +9,7 @@ use Rattle.walks.specs.Lengths.{Least, none, some}
 use Rattle.sheet.specs.Answer.{Answer, finished, refused, answerOf}
 use Rattle.sheet.specs.Sheet.{Sheet, isForbidden}
 use Rattle.reason_list.specs.Reasons.{but}
-use Rattle.pass_rules.specs.Accepted.{accepted}
+use Rattle.sheet.specs.Reader.{taken}
 use Rattle.pass_rules.specs.Verdict.{reasonsFor}
 use Rattle.reason_rules.specs.Reason.{reasonIn}
 use Rattle.text_lines.specs.Lines.{line, numberLine, differenceLine, lines}
@@ -48,7 +48,7 @@ unfoldable pub costIn : ℕ → Sheet → List ℕ → Read (List ℕ)
 costIn i S rest = after (reasonIn i S rest) (λ slip. got (costLines S i (reasonsFor S (i ∷ []))))
 
 unfoldable pub costFor : ℕ → List ℕ → Read (List ℕ)
-costFor i sheet = after (accepted sheet) (costIn i)
+costFor i sheet = after (taken sheet) (costIn i)
 
 -- the item number first, then the sheet
 unfoldable pub costOn : List ℕ → Answer

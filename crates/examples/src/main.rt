@@ -8,6 +8,7 @@ use sheet_reader::SheetRead;
 use varint::Number;
 use walks::ARC_NUMBERS;
 use walks::ITEMS;
+use walks::NODES;
 use work::Answer;
 use work::WORK_NUMBERS;
 
@@ -18,6 +19,17 @@ const SLIP_LENT: usize = 1210;
 
 // More bytes than the writer is lent for a sheet.
 const SHEET_LENT: usize = 40;
+
+// What a ring has: legs along it and eight more, three numbers for each of them, the items, and at most so many bytes.
+const RING_ALONG: usize = NODES - 1;
+
+const RING_LEGS: usize = RING_ALONG + 8;
+
+const RING_NUMBERS: usize = RING_LEGS * 3;
+
+const RING_ITEMS: usize = NODES + RING_LEGS;
+
+const RING_BYTES: usize = 512;
 
 // What the work and the slip hold before a call.
 const FILLED_NUMBER: u32 = 2779096485;
@@ -341,6 +353,67 @@ fn twin_legs() {
     );
 }
 
+// Where a leg of the ring starts: at 1, 2 and so on to 63, and then eight times at 0.
+fn ring_tail(leg: usize) -> u32
+    ensures { λ r. ⌜ r ≤ 63 ⌝ }
+{
+    if leg < RING_ALONG { leg as u32 + 1 } else { 0 }
+}
+
+// The legs of the ring, each to the next place, all of the same minutes.
+fn ring_legs(minutes: u32) -> [u32; RING_NUMBERS] {
+    let mut legs = [minutes; RING_NUMBERS];
+    let mut leg: usize = 0;
+    while leg < RING_LEGS {
+        let tail = ring_tail(leg);
+        legs[3 * leg] = tail;
+        legs[3 * leg + 1] = (tail + 1) % 64;
+        leg += 1;
+    }
+    legs
+}
+
+// Its marks: the eight legs are must.
+fn ring_marks() -> [u8; RING_ITEMS] {
+    let mut marks = [0u8; RING_ITEMS];
+    let mut item = RING_ITEMS - 8;
+    while item < RING_ITEMS {
+        marks[item] = 1;
+        item += 1;
+    }
+    marks
+}
+
+// Prints a line: the name, and what the pass gives for the ring, from place 1 to place 0.
+fn show_ring(name: &[u8], limit: u32, minutes: u32) {
+    let header = Header {
+        nodes: NODES,
+        arcs: RING_LEGS,
+        source: 1,
+        target: 0,
+        limit: limit,
+    };
+    let legs = ring_legs(minutes);
+    let marks = ring_marks();
+    let mut sheet = [0u8; RING_BYTES];
+    let written = sheet_writer::write_sheet(header, &legs, &marks, &mut sheet);
+    let length = written.length;
+    if length <= RING_BYTES {
+        show_pass(name, &sheet[..length]);
+    }
+}
+
+// The longest of all shortest walks (request 2.5): nine times along the ring and once over each of its eight must legs, 575 legs.
+fn longest_walks() {
+    show_ring(b"Ring of 64 places, eight must legs, K 575", 575, 1);
+    show_ring(b"The same, K 574", 574, 1);
+    show_ring(
+        b"The same, 65,535 minutes a leg, K 1,000,000",
+        1000000,
+        65535,
+    );
+}
+
 // Views of arcs: with minutes of three groups, the next one, two with the same bytes.
 fn views() {
     show_view(
@@ -630,6 +703,7 @@ fn main() {
     starred_reasons();
     must_legs();
     twin_legs();
+    longest_walks();
     bad_sheets();
     large_sheets();
     bounds();

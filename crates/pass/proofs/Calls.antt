@@ -11,50 +11,50 @@ use Rattle.sheet.specs.Slip.{Slip, readSlip}
 use Rattle.varint.specs.Varint.{Read, got, refuse, after}
 use Rattle.pass.proofs.OutcomeLaws.{call-writes}
 use Rattle.pass_rules.proofs.WithinLaws.{pass-within}
-use Rattle.pass_rules.proofs.AcceptedLaws.{accepted-got}
+use Rattle.sheet.proofs.SheetLaws.{taken-got}
 use Rattle.pass_rules.proofs.Demand2.{Refusal, finished-is, verdict-in, prune-exact, refuse-exact, is-refused}
 use Rattle.pass_rules.proofs.VerdictLaws.{NoWalkOn}
-use Rattle.pass_rules.specs.Accepted.{accepted}
+use Rattle.sheet.specs.Reader.{taken}
 use Rattle.sheet.specs.Answer.{finished, answerOf}
 use Rattle.pass_rules.specs.Pass.{passOn, passed, written, verdictIn, markIn, Refuses}
 use Rattle.pass_rules.specs.Verdict.{verdict, slipFor}
 use Rattle.walks.specs.Graph.{itemCount}
 
--- a call that answers 0: the sheet is accepted, and the stated slip stands in front
+-- a call that answers 0: the sheet is taken, and the stated slip stands in front
 pub record Finished (sheet work slip : List ℕ) : Type 0 where
   pub read : Sheet
-  pub accepts : accepted sheet ≡ got read []
+  pub took : taken sheet ≡ got read []
   pub writes : passOn sheet ≡ finished (written (passed sheet work slip))
 
 pub call-finished : (sheet work slip : List ℕ) → passed sheet work slip .number ≡ 0 → Finished sheet work slip
 unfolding passed passOn answerOf after
-call-finished sheet work slip z = go (accepted sheet) refl (call-writes (passOn sheet) work slip (pass-within sheet) z)
+call-finished sheet work slip z = go (taken sheet) refl (call-writes (passOn sheet) work slip (pass-within sheet) z)
   where
-    go : (r : Read Sheet) → accepted sheet ≡ r → passOn sheet ≡ finished (written (passed sheet work slip)) → Finished sheet work slip
+    go : (r : Read Sheet) → taken sheet ≡ r → passOn sheet ≡ finished (written (passed sheet work slip)) → Finished sheet work slip
     go (refuse w) e f = absurd (let y : _≡_ {A = ℕ} 0 1 = cc (rw e at f) in omega arith)
-    go (got S rest) e f = record { read = S; accepts = e ∙ ap (got S) (accepted-got sheet S rest e .1); writes = f }
+    go (got S rest) e f = record { read = S; took = e ∙ ap (got S) (taken-got sheet S rest e .1); writes = f }
 
 module _ (sheet work slip : List ℕ) (z : passed sheet work slip .number ≡ 0) where
   -- a call that answers 0 with verdict 0 has struck off an open item exactly when no walk through it keeps to the limit
   pub call-prunes : verdictIn (written (passed sheet work slip)) ≡ 0
-      → (S : Sheet) × (accepted sheet ≡ got S [])
+      → (S : Sheet) × (taken sheet ≡ got S [])
       × ((i : ℕ) → i < itemCount (S .graph) → isOpen S i ≡ true → (markIn (written (passed sheet work slip)) i ≡ 2) ↔ NoWalkOn S (i ∷ []))
   call-prunes v =
       let f = call-finished sheet work slip z in
-      (f .read, f .accepts, prune-exact sheet (f .read) (f .accepts) (written (passed sheet work slip)) (f .writes) v)
+      (f .read, f .took, prune-exact sheet (f .read) (f .took) (written (passed sheet work slip)) (f .writes) v)
 
   -- a call that answers 0 has refused the round exactly when a walk is missing
-  pub call-refuses : (S : Sheet) × (accepted sheet ≡ got S []) × (((s : Slip) × Refuses sheet s) ↔ Refusal S)
-  call-refuses = let f = call-finished sheet work slip z in (f .read, f .accepts, refuse-exact sheet (f .read) (f .accepts))
+  pub call-refuses : (S : Sheet) × (taken sheet ≡ got S []) × (((s : Slip) × Refuses sheet s) ↔ Refusal S)
+  call-refuses = let f = call-finished sheet work slip z in (f .read, f .took, refuse-exact sheet (f .read) (f .took))
 
   -- a call that answers 0 with another verdict has refused the round: what it left reads as the verdict, its goals and the reasons for them
   pub call-refused : (verdictIn (written (passed sheet work slip)) ≡ 0 → ⊥)
-      → (S : Sheet) × (accepted sheet ≡ got S [])
+      → (S : Sheet) × (taken sheet ≡ got S [])
       × (readSlip (written (passed sheet work slip)) ≡ got (slipFor S (verdict S .number) (verdict S .goals)) [])
       × Refuses sheet (slipFor S (verdict S .number) (verdict S .goals))
   call-refused n =
       let f = call-finished sheet work slip z in
       let S = f .read in
-      let r = is-refused sheet S (f .accepts) (λ v. n (verdict-in sheet S (f .accepts) (written (passed sheet work slip)) (f .writes) ∙ v)) in
+      let r = is-refused sheet S (f .took) (λ v. n (verdict-in sheet S (f .took) (written (passed sheet work slip)) (f .writes) ∙ v)) in
       let e = finished-is (r .slip) (written (passed sheet work slip)) (sym (r .finishes) ∙ f .writes) in
-      (S, f .accepts, ap readSlip (sym e) ∙ r .says, r)
+      (S, f .took, ap readSlip (sym e) ∙ r .says, r)

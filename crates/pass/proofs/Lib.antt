@@ -1,4 +1,3 @@
 pub mod OutcomeLaws
-pub mod PassLaws
 pub mod AnswerLaws
 pub mod Calls

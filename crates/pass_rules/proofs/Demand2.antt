@@ -1,4 +1,4 @@
--- Demand 2, over bytes, for every sheet that draws none of 3 to 14. Each statement speaks of walks, and of the slip that pass writes.
+-- Demand 2, over bytes, for every sheet that is taken, which draws none of 3 to 13. Each statement speaks of walks, and of the slip that pass writes.
 -- Assumes nothing.
 use Prim.Native.Nat.{ℕ, _≤_, _<_}
 use mathlib.Core.Path.{_≡_, refl, sym, ap, _∙_, subst}
@@ -17,12 +17,12 @@ use Rattle.varint.proofs.VarintLaws.{got-both}
 use Rattle.varint.specs.Varint.{got, number, judged, readNumber, readGroups, lastGroup, after}
 use Rattle.walks.proofs.FitsLaws.{fit-narrower}
 use Rattle.walks.specs.Graph.{itemCount}
-use Rattle.pass_rules.proofs.AcceptedLaws.{accepted-got, accepted-good}
+use Rattle.sheet.proofs.SheetLaws.{taken-got, taken-good}
 use Rattle.pass_rules.proofs.MetLaws.{forced-node, forced-fits, all-missing}
 use Rattle.pass_rules.proofs.RouteLaws.{route-stands, route-left, left-route}
 use Rattle.pass_rules.proofs.SlipOfPass.{PassSlipIs, marks, blames, pass-slip-is, pass-finishes, pass-verdict-in, pass-mark-in}
 use Rattle.pass_rules.proofs.VerdictLaws.{NoWalkOn, no-walk, stands-all, all-stands, pruned-mark, other-mark, mark-forced, forced-mark, verdict-low, VerdictIs, verdict-is, one, two, three, stands}
-use Rattle.pass_rules.specs.Accepted.{accepted}
+use Rattle.sheet.specs.Reader.{taken}
 use Rattle.sheet.specs.Answer.{finished}
 use Rattle.pass_rules.specs.Pass.{passOn, verdictIn, markIn, marksIn, Refuses}
 use Rattle.pass_rules.specs.Route.{Route, mandatory, marked}
@@ -56,12 +56,12 @@ no-marks ms s e = let z : _≡_ {A = ℕ} 0 1 = cc in omega arith
 pub finished-is : (xs ys : List ℕ) → finished xs ≡ finished ys → xs ≡ ys
 finished-is xs ys e = cc
 
-module _ (sheet : List ℕ) (S : Sheet) (a : accepted sheet ≡ got S []) where
+module _ (sheet : List ℕ) (S : Sheet) (a : taken sheet ≡ got S []) where
   good : Good S
-  good = accepted-good sheet S [] a
+  good = taken-good sheet S [] a
 
   few : length (required S) ≤ 8
-  few = accepted-got sheet S [] a .0 .few
+  few = taken-got sheet S [] a .0 .few
 
   -- the slip that pass writes is that of the verdict
   slip-is : (slip : List ℕ) → passOn sheet ≡ finished slip → passSlip S (verdict S) ≡ slip

@@ -1,4 +1,4 @@
-pub mod AcceptedLaws
+pub mod BoundLaws
 pub mod VerdictLaws
 pub mod SlipOfPass
 pub mod RouteLaws

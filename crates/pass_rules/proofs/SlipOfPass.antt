@@ -21,7 +21,7 @@ use Rattle.sheet.specs.Slip.{Slip, slipNumbers, slipBytes, marksBytes}
 use Rattle.varint.specs.Varint.{got, after, writeNumber, writeNumbers, writeGroups}
 use Rattle.walks.specs.Graph.{itemCount}
 use Rattle.pass_rules.proofs.VerdictLaws.{stands, VerdictIs, verdict-is, one, two, three, new-mark-low, verdict-low}
-use Rattle.pass_rules.specs.Accepted.{accepted}
+use Rattle.sheet.specs.Reader.{taken}
 use Rattle.sheet.specs.Answer.{finished, answerOf}
 use Rattle.pass_rules.specs.Pass.{passOn, verdictIn, markIn}
 use Rattle.pass_rules.specs.Verdict.{Verdict, verdict, newMark, newMarks, reasonsFor, slipFor, passSlip}
@@ -95,7 +95,7 @@ pub new-marks-at : (S : Sheet) (i : ℕ) → i < itemCount (S .graph) → getD (
 unfolding newMarks allItems
 new-marks-at S i h = let e : 0 + i ≡ i = omega arith in map-span-at (newMark S) (itemCount (S .graph)) 0 i h ∙ ap (newMark S) e
 
--- The slip of an accepted sheet by its verdict: 0 and the new marks, or the goals and reasons.
+-- The slip of a taken sheet by its verdict: 0 and the new marks, or the goals and reasons.
 pub data PassSlipIs (S : Sheet) : List ℕ → Type 0 where
   marks : verdict S .number ≡ 0 → PassSlipIs S (0 ∷ newMarks S)
   blames : 1 ≤ verdict S .number → Small (slipFor S (verdict S .number) (verdict S .goals)) → PassSlipIs S (slipBytes (slipFor S (verdict S .number) (verdict S .goals)))
@@ -113,8 +113,8 @@ pass-slip-is S g f = go (verdict S .number) refl
         let s = slip-small S g (verdict S .number) (verdict S .goals) l (omega (arith, verdict-low S)) (G .few) (G .items) in
         subst (λ (n : ℕ). PassSlipIs S (slipBytes (slipFor S n (verdict S .goals)))) e (blames l s)
 
--- pass finishes on every accepted sheet, with the slip of its verdict
-pub pass-finishes : (bs : List ℕ) (S : Sheet) → accepted bs ≡ got S [] → passOn bs ≡ finished (passSlip S (verdict S))
+-- pass finishes on every taken sheet, with the slip of its verdict
+pub pass-finishes : (bs : List ℕ) (S : Sheet) → taken bs ≡ got S [] → passOn bs ≡ finished (passSlip S (verdict S))
 unfolding passOn answerOf after
 pass-finishes bs S a = rw a
 

@@ -1,4 +1,4 @@
-pub mod Accepted
 pub mod Verdict
 pub mod Route
 pub mod Pass
+pub mod Shortest

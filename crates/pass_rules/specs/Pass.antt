@@ -9,7 +9,7 @@ use Rattle.varint.specs.Varint.{got, after}
 use Rattle.sheet.specs.Slip.{Slip, readSlip}
 use Rattle.sheet.specs.Lent.{workNumbers, zeroed, workAfter}
 use Rattle.sheet.specs.Answer.{Answer, finished, refused, answerOf}
-use Rattle.pass_rules.specs.Accepted.{accepted}
+use Rattle.sheet.specs.Reader.{taken}
 use Rattle.pass_rules.specs.Verdict.{verdict, passSlip}
 
 -- What a call gives and leaves: the refusal number, 0 where it finished, the slip's length, and what work and slip hold.
@@ -30,7 +30,7 @@ lentEnough work slip a = pick (ltb (length work) workNumbers) (refused 1) (pick 
 
 -- what pass answers to a sheet, given work and slip of the lengths it asks for
 unfoldable pub passOn : List ℕ → Answer
-passOn sheet = answerOf (after (accepted sheet) (λ S rest. got (passSlip S (verdict S)) rest))
+passOn sheet = answerOf (after (taken sheet) (λ S rest. got (passSlip S (verdict S)) rest))
 
 -- pass, for every sheet, work and slip
 unfoldable pub passed : List ℕ → List ℕ → List ℕ → Outcome

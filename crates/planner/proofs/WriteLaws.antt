@@ -1,6 +1,7 @@
 -- What the writer gives and leaves as one number and a slice, from what it answers. Assumes nothing.
 use Prim.Native.Nat.{ℕ, _+_, _*_, _≤_}
 use mathlib.Core.Path.{_≡_, ap}
+use mathlib.Core.Logic.{⊎-elim}
 use mathlib.Core.List.{List}
 use native.Mathlib.Omega.{arith}
 use Rattle.sheet.specs.declared.Header.{Header}
@@ -20,4 +21,5 @@ module _ (h : Header) (arcs marks out : List ℕ) (w : Wrote) (e : w ≡ sheetWr
   pub write-small : (w .number ≤ 27) × (w .length ≤ 65535)
   write-small =
       let l = written-size (draftOf h arcs marks) out in
-      (omega (arith, ap (λ (w : Wrote). w .number) e, l .0), omega (arith, ap (λ (w : Wrote). w .length) e, l .1))
+      let n : sheetWritten (draftOf h arcs marks) out .number ≤ 27 = ⊎-elim (λ g. omega (arith, g)) (λ g. omega (arith, g)) (l .0) in
+      (omega (arith, ap (λ (w : Wrote). w .number) e, n), omega (arith, ap (λ (w : Wrote). w .length) e, l .1))

@@ -7,9 +7,9 @@ use native.Mathlib.Omega.{arith}
 use Rattle.sheet.specs.Sheet.{Sheet}
 use Rattle.sheet.specs.Slip.{readSlip}
 use Rattle.varint.specs.Varint.{Read, got, refuse, after}
-use Rattle.pass_rules.proofs.AcceptedLaws.{accepted-got}
+use Rattle.sheet.proofs.SheetLaws.{taken-got}
 use Rattle.pass_rules.proofs.Demand2.{finished-is}
-use Rattle.pass_rules.specs.Accepted.{accepted}
+use Rattle.sheet.specs.Reader.{taken}
 use Rattle.sheet.specs.Answer.{finished, answerOf}
 use Rattle.pass_rules.specs.Pass.{written}
 use Rattle.pass_rules.specs.Verdict.{slipFor}
@@ -19,28 +19,28 @@ use Rattle.reason_rules.proofs.AnswerLaws.{reason-finished, reason-finishes}
 use Rattle.reason_rules.specs.Later.{Explains}
 use Rattle.reason_rules.specs.Reason.{reasonOn, reasoned}
 
--- a call that answers 0: the sheet is accepted, and the stated slip stands in front
+-- a call that answers 0: the sheet is taken, and the stated slip stands in front
 pub record Finished (sheet work slip : List ℕ) (i : ℕ) : Type 0 where
   pub read : Sheet
-  pub accepts : accepted sheet ≡ got read []
+  pub took : taken sheet ≡ got read []
   pub writes : reasonOn sheet i ≡ finished (written (reasoned sheet work slip i))
 
 pub call-finished : (sheet work slip : List ℕ) (i : ℕ) → reasoned sheet work slip i .number ≡ 0 → Finished sheet work slip i
 unfolding reasoned reasonOn answerOf after
-call-finished sheet work slip i z = go (accepted sheet) refl (call-writes (reasonOn sheet i) work slip (reason-within sheet i) z)
+call-finished sheet work slip i z = go (taken sheet) refl (call-writes (reasonOn sheet i) work slip (reason-within sheet i) z)
   where
-    go : (r : Read Sheet) → accepted sheet ≡ r → reasonOn sheet i ≡ finished (written (reasoned sheet work slip i)) → Finished sheet work slip i
+    go : (r : Read Sheet) → taken sheet ≡ r → reasonOn sheet i ≡ finished (written (reasoned sheet work slip i)) → Finished sheet work slip i
     go (refuse w) e f = absurd (let y : _≡_ {A = ℕ} 0 1 = cc (rw e at f) in omega arith)
-    go (got S rest) e f = record { read = S; accepts = e ∙ ap (got S) (accepted-got sheet S rest e .1); writes = f }
+    go (got S rest) e f = record { read = S; took = e ∙ ap (got S) (taken-got sheet S rest e .1); writes = f }
 
 -- what the call left reads as a 4, the item as its only goal, and the reasons for it
 pub call-explains : (sheet work slip : List ℕ) (i : ℕ) → reasoned sheet work slip i .number ≡ 0
-    → (S : Sheet) × (accepted sheet ≡ got S []) × (readSlip (written (reasoned sheet work slip i)) ≡ got (slipFor S 4 (i ∷ [])) [])
+    → (S : Sheet) × (taken sheet ≡ got S []) × (readSlip (written (reasoned sheet work slip i)) ≡ got (slipFor S 4 (i ∷ [])) [])
     × Explains sheet i (slipFor S 4 (i ∷ []))
 call-explains sheet work slip i z =
     let f = call-finished sheet work slip i z in
     let S = f .read in
-    let k = reason-finished sheet S i (written (reasoned sheet work slip i)) (f .accepts) (f .writes) in
-    let x = reason-finishes sheet S i (f .accepts) (k .item) (k .stands) (k .pruned) in
+    let k = reason-finished sheet S i (written (reasoned sheet work slip i)) (f .took) (f .writes) in
+    let x = reason-finishes sheet S i (f .took) (k .item) (k .stands) (k .pruned) in
     let e = finished-is (x .slip) (written (reasoned sheet work slip i)) (sym (x .finishes) ∙ f .writes) in
-    (S, f .accepts, ap readSlip (sym e) ∙ x .says, x)
+    (S, f .took, ap readSlip (sym e) ∙ x .says, x)

@@ -9,9 +9,9 @@ use lib.Dec.{eqb, ltb}
 use borrow.Author.Tests.{eqb-true, eq-eqb, ltb-true, lt-ltb}
 use Rattle.lists.proofs.Pigeonhole.{Below}
 use Rattle.lists.proofs.TestLaws.{and-true}
-use Rattle.pass_rules.proofs.AcceptedLaws.{accepted-good}
+use Rattle.sheet.proofs.SheetLaws.{taken-good}
 use Rattle.pass_rules.proofs.SlipOfPass.{slip-small}
-use Rattle.pass_rules.specs.Accepted.{accepted}
+use Rattle.sheet.specs.Reader.{taken}
 use Rattle.sheet.specs.Answer.{finished, answerOf}
 use Rattle.pass_rules.specs.Verdict.{verdict, isPruned, slipFor}
 use Rattle.sheet.proofs.SlipLaws.{Small, slip-back, slip-size}
@@ -24,8 +24,8 @@ use Rattle.reason_rules.specs.Later.{Explains}
 use Rattle.reason_rules.specs.Reason.{prunes, reasonIn, reasonOn}
 
 -- a pruned item's slip is small
-item-small : (sheet : List ℕ) (S : Sheet) (i : ℕ) → accepted sheet ≡ got S [] → i < itemCount (S .graph) → Small (slipFor S 4 (i ∷ []))
-item-small sheet S i a h = slip-small S (accepted-good sheet S [] a) 4 (i ∷ []) (omega arith) (omega arith) (omega arith) (h, tt)
+item-small : (sheet : List ℕ) (S : Sheet) (i : ℕ) → taken sheet ≡ got S [] → i < itemCount (S .graph) → Small (slipFor S 4 (i ∷ []))
+item-small sheet S i a h = slip-small S (taken-good sheet S [] a) 4 (i ∷ []) (omega arith) (omega arith) (omega arith) (h, tt)
 
 -- where reason finishes, the pass prunes the item, and the slip has its reasons
 pub record Finished (S : Sheet) (i : ℕ) (slip : List ℕ) : Type 0 where
@@ -34,7 +34,7 @@ pub record Finished (S : Sheet) (i : ℕ) (slip : List ℕ) : Type 0 where
   pub pruned : isPruned S i ≡ true
   pub bytes : slipBytes (slipFor S 4 (i ∷ [])) ≡ slip
 
-pub reason-finished : (sheet : List ℕ) (S : Sheet) (i : ℕ) (slip : List ℕ) → accepted sheet ≡ got S [] → reasonOn sheet i ≡ finished slip → Finished S i slip
+pub reason-finished : (sheet : List ℕ) (S : Sheet) (i : ℕ) (slip : List ℕ) → taken sheet ≡ got S [] → reasonOn sheet i ≡ finished slip → Finished S i slip
 unfolding reasonOn reasonIn prunes answerOf after
 reason-finished sheet S i slip a = go (ltb i (itemCount (S .graph))) refl (eqb (verdict S .number) 0 && isPruned S i) refl
   where
@@ -47,7 +47,7 @@ reason-finished sheet S i slip a = go (ltb i (itemCount (S .graph))) refl (eqb (
         record { item = ltb-true i (itemCount (S .graph)) t≡; stands = eqb-true (verdict S .number) 0 (k .0); pruned = k .1; bytes = cc }
 
 -- reason, asked for a pruned item, finishes (where work and slip are long enough)
-pub reason-finishes : (sheet : List ℕ) (S : Sheet) (i : ℕ) → accepted sheet ≡ got S [] → i < itemCount (S .graph) → verdict S .number ≡ 0 → isPruned S i ≡ true
+pub reason-finishes : (sheet : List ℕ) (S : Sheet) (i : ℕ) → taken sheet ≡ got S [] → i < itemCount (S .graph) → verdict S .number ≡ 0 → isPruned S i ≡ true
     → Explains sheet i (slipFor S 4 (i ∷ []))
 unfolding reasonOn reasonIn prunes answerOf after
 reason-finishes sheet S i a h z p = record {
@@ -57,7 +57,7 @@ reason-finishes sheet S i a h z p = record {
 }
 
 -- the slip that reason writes reads as the item and its reasons
-pub explained : (sheet : List ℕ) (S : Sheet) (i : ℕ) (s : Slip) → accepted sheet ≡ got S [] → Explains sheet i s
+pub explained : (sheet : List ℕ) (S : Sheet) (i : ℕ) (s : Slip) → taken sheet ≡ got S [] → Explains sheet i s
     → (i < itemCount (S .graph)) × (verdict S .number ≡ 0) × (isPruned S i ≡ true) × (s ≡ slipFor S 4 (i ∷ []))
 explained sheet S i s a x =
     let f = reason-finished sheet S i (x .slip) a (x .finishes) in
@@ -65,7 +65,7 @@ explained sheet S i s a x =
     (f .item, f .stands, f .pruned, sym (got-both (slipFor S 4 (i ∷ [])) s [] [] (sym b ∙ ap readSlip (f .bytes) ∙ x .says) .0))
 
 -- a slip of reason has at most 1,200 bytes
-pub reason-slip-size : (sheet : List ℕ) (S : Sheet) (i : ℕ) (slip : List ℕ) → accepted sheet ≡ got S [] → reasonOn sheet i ≡ finished slip
+pub reason-slip-size : (sheet : List ℕ) (S : Sheet) (i : ℕ) (slip : List ℕ) → taken sheet ≡ got S [] → reasonOn sheet i ≡ finished slip
     → (length slip ≤ 1200) × Below 256 slip
 reason-slip-size sheet S i slip a e =
     let f = reason-finished sheet S i slip a e in

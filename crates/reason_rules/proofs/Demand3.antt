@@ -1,4 +1,4 @@
--- Demand 3, over bytes: the closures listed are what did it, on every accepted later sheet, and none of them can be spared. The list blocks its goals
+-- Demand 3, over bytes: the closures listed are what did it, on every later sheet that is taken, and none of them can be spared. The list blocks its goals
 -- by itself (`reasons-valid`), so it does so wherever it is shut and the limit is no greater. Assumes nothing.
 use Prim.Native.Nat.{ℕ, zero, suc, _≤_, _<_}
 use mathlib.Core.Path.{_≡_, refl, sym, ap, _∙_, subst}
@@ -15,17 +15,16 @@ use Rattle.reason_list.specs.Reasons.{but}
 use Rattle.lists.proofs.TestLaws.{false-back, and-true, not-true, true-or-false}
 use Rattle.lists.specs.Lists.{member}
 use Rattle.sheet.proofs.MarkLaws.{required-mandatory, is-open, is-mandatory, mandatory-mark, marked-item}
-use Rattle.sheet.proofs.SheetLaws.{good-mark}
+use Rattle.sheet.proofs.SheetLaws.{good-mark, taken-good}
 use Rattle.sheet.specs.Good.{Good}
 use Rattle.sheet.specs.Sheet.{Sheet, isMandatory, isForbidden, isOpen, markOf}
 use Rattle.sheet.specs.Slip.{Slip}
 use Rattle.varint.specs.Varint.{got}
-use Rattle.pass_rules.proofs.AcceptedLaws.{accepted-good}
 use Rattle.pass_rules.proofs.Demand2.{verdict-in, marks-exact, refuses-is, is-refused}
 use Rattle.pass_rules.proofs.MetLaws.{is-mandatory-item, all-fits}
 use Rattle.pass_rules.proofs.SlipOfPass.{pass-finishes}
 use Rattle.pass_rules.proofs.VerdictLaws.{Stands, stands-all, fits-fewer, refused-goals, pruned-mark, forbidden-stays}
-use Rattle.pass_rules.specs.Accepted.{accepted}
+use Rattle.sheet.specs.Reader.{taken}
 use Rattle.pass_rules.specs.Pass.{Refuses, EndsForbidden}
 use Rattle.pass_rules.specs.Route.{mandatory}
 use Rattle.pass_rules.specs.Verdict.{reasonsFor, fitsSheet, slipFor, verdict, isPruned, newMark, passSlip}
@@ -102,8 +101,8 @@ pub blocks-again : (S : Sheet) (list goals later : List ℕ) (T : Sheet) → Blo
     → ((g : ℕ) → member g goals ≡ true → Demanded T g) → (s : Slip) × Refuses later s
 blocks-again S list goals later T b L d = (
   slipFor T (verdict T .number) (verdict T .goals),
-  is-refused later T (L .accepts)
-      (λ z. true≢false (sym (stands-meets T goals (accepted-good later T [] (L .accepts)) (stands-all T z) d) ∙ blocks-later S list goals later T b L)),
+  is-refused later T (L .took)
+      (λ z. true≢false (sym (stands-meets T goals (taken-good later T [] (L .took)) (stands-all T z) d) ∙ blocks-later S list goals later T b L)),
 )
 
 -- a pruned item is met by no walk
@@ -112,7 +111,7 @@ unfolding isPruned
 pruned-unmet S i p = not-true (fitsSheet S (i ∷ [])) (and-true (isOpen S i) (not (fitsSheet S (i ∷ []))) p .1)
 
 -- on a later sheet an item that no walk meets ends forbidden, or the round is refused
-pub blocked-ends : (sheet : List ℕ) (T : Sheet) (i : ℕ) → accepted sheet ≡ got T [] → i < itemCount (T .graph) → fitsSheet T (i ∷ []) ≡ false
+pub blocked-ends : (sheet : List ℕ) (T : Sheet) (i : ℕ) → taken sheet ≡ got T [] → i < itemCount (T .graph) → fitsSheet T (i ∷ []) ≡ false
     → EndsForbidden sheet i ⊎ ((s : Slip) × Refuses sheet s)
 blocked-ends sheet T i a h b = go (true-or-false (eqb (verdict T .number) 0))
   where
@@ -131,11 +130,11 @@ blocked-ends sheet T i a h b = go (true-or-false (eqb (verdict T .number) 0))
           slip = passSlip T (verdict T);
           finishes = e;
           stands = v;
-          mark = marks-exact sheet T a (passSlip T (verdict T)) e v i h ∙ ends z (markOf T i) refl (good-mark T (accepted-good sheet T [] a) i);
+          mark = marks-exact sheet T a (passSlip T (verdict T)) e v i h ∙ ends z (markOf T i) refl (good-mark T (taken-good sheet T [] a) i);
         })
     go (inr q) = inr (slipFor T (verdict T .number) (verdict T .goals), is-refused sheet T a (eqb-false (verdict T .number) 0 q))
 
-module _ (sheet : List ℕ) (S : Sheet) (a : accepted sheet ≡ got S []) where
+module _ (sheet : List ℕ) (S : Sheet) (a : taken sheet ≡ got S []) where
   -- Where an item was pruned, the pass on a later sheet ends with it shut or the round refused.
   pub pruned-again : (i : ℕ) (s : Slip) → Explains sheet i s → (later : List ℕ) (T : Sheet) → Later S (s .reasons) later T
       → EndsForbidden later i ⊎ ((s′ : Slip) × Refuses later s′)
@@ -143,7 +142,7 @@ module _ (sheet : List ℕ) (S : Sheet) (a : accepted sheet ≡ got S []) where
   pruned-again i s x later T L =
       let y = explained sheet S i s a x in
       let L′ : Later S (reasonsFor S (i ∷ [])) later T = subst (λ (s : Slip). Later S (s .reasons) later T) (y .3) L in
-      blocked-ends later T i (L .accepts) (rw (same-count S T (L .map)) (y .0)) (blocks-later S (reasonsFor S (i ∷ [])) (i ∷ []) later T (list-valid S (i ∷ []) (pruned-unmet S i (y .2))) L′)
+      blocked-ends later T i (L .took) (rw (same-count S T (L .map)) (y .0)) (blocks-later S (reasonsFor S (i ∷ [])) (i ∷ []) later T (list-valid S (i ∷ []) (pruned-unmet S i (y .2))) L′)
 
   -- Where the round was refused, the pass refuses a later sheet's round too, if everything named is demanded there.
   pub refused-again : (s : Slip) → Refuses sheet s → (later : List ℕ) (T : Sheet) → Later S (s .reasons) later T

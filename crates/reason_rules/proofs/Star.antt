@@ -5,7 +5,6 @@ use mathlib.Core.Path.{_≡_, refl}
 use mathlib.Core.List.{List, [], _∷_}
 use Rattle.reason_list.specs.Reasons.{greedy, reasons}
 use Rattle.lists.specs.Lists.{member, every, keep, add, span}
-use Rattle.pass_rules.specs.Accepted.{overlong, shortEnough, accepted}
 use Rattle.sheet.specs.Answer.{finished, answerOf}
 use Rattle.pass_rules.specs.Pass.{passOn}
 use Rattle.pass_rules.specs.Verdict.{fitsSheet, unmet, verdictFrom, verdict, isPruned, newMark, newMarks, reasonsFor, slipFor, passSlip}
@@ -37,5 +36,5 @@ pub star :
     × (passOn (sheetB 8 (0 ∷ 2 ∷ 0 ∷ 0 ∷ 0 ∷ 2 ∷ 0 ∷ 0 ∷ 0 ∷ [])) ≡ finished (0x01 ∷ 0x00 ∷ 0x01 ∷ 0x05 ∷ []))
     × (passOn (sheetB 13 (0 ∷ 0 ∷ 0 ∷ 0 ∷ 0 ∷ 0 ∷ 0 ∷ 0 ∷ 1 ∷ [])) ≡ finished (0x02 ∷ 0x01 ∷ 0x08 ∷ 0x00 ∷ []))
     × (passOn (sheetB 14 (0 ∷ 1 ∷ 0 ∷ 0 ∷ 0 ∷ 0 ∷ 1 ∷ 0 ∷ 0 ∷ [])) ≡ finished (0x03 ∷ 0x02 ∷ 0x01 ∷ 0x06 ∷ 0x00 ∷ []))
-unfolding sheetB member every keep add span after lastGroup above readGroups readNumber judged number several writeGroups writeNumber writeNumbers lesser within noArc tailOf headOf weightOf arcItem chain items len clear meets fit begin onward chains against leastOf least fits markOf isOpen isMandatory isForbidden allItems allArcs endsMandatory isForced isRequired required arcMinutes arcHead readArc readMark readMarks readArcs headerLimit headerTarget headerSource headerArcs readHeader readSheet complete taken slipNumbers slipBytes marksBytes greedy reasons overlong shortEnough accepted fitsSheet unmet verdictFrom verdict isPruned newMark newMarks reasonsFor slipFor passSlip answerOf passOn prunes reasonIn reasonOn
+unfolding sheetB member every keep add span after lastGroup above readGroups readNumber judged number several writeGroups writeNumber writeNumbers lesser within noArc tailOf headOf weightOf arcItem chain items len clear meets fit begin onward chains against leastOf least fits markOf isOpen isMandatory isForbidden allItems allArcs endsMandatory isForced isRequired required arcMinutes arcHead readArc readMark readMarks readArcs headerLimit headerTarget headerSource headerArcs readHeader readSheet complete taken slipNumbers slipBytes marksBytes greedy reasons fitsSheet unmet verdictFrom verdict isPruned newMark newMarks reasonsFor slipFor passSlip answerOf passOn prunes reasonIn reasonOn
 star = (refl, refl, refl, refl, refl, refl, refl, refl, refl, refl, refl, refl, refl)

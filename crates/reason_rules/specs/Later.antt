@@ -10,7 +10,7 @@ use Rattle.varint.specs.Varint.{got}
 use Rattle.walks.specs.Graph.{Graph, tailOf, headOf, weightOf}
 use Rattle.sheet.specs.Sheet.{Sheet, isMandatory, isForbidden, required}
 use Rattle.sheet.specs.Slip.{Slip, readSlip}
-use Rattle.pass_rules.specs.Accepted.{accepted}
+use Rattle.sheet.specs.Reader.{taken}
 use Rattle.sheet.specs.Answer.{finished}
 use Rattle.reason_rules.specs.Reason.{reasonOn}
 
@@ -28,9 +28,9 @@ pub record SameMap (G H : Graph) : Type 0 where
   pub heads : (l : ℕ) → l < length (G .arcs) → headOf H l ≡ headOf G l
   pub weights : (l : ℕ) → l < length (G .arcs) → weightOf H l ≡ weightOf G l
 
--- An accepted sheet with the same map, source and target, every listed closure shut and no greater limit, whatever else it marks.
+-- A taken sheet with the same map, source and target, every listed closure shut and no greater limit, whatever else it marks.
 pub record Later (S : Sheet) (list : List ℕ) (sheet : List ℕ) (T : Sheet) : Type 0 where
-  pub accepts : accepted sheet ≡ got T []
+  pub took : taken sheet ≡ got T []
   pub map : SameMap (S .graph) (T .graph)
   pub source : T .source ≡ S .source
   pub target : T .target ≡ S .target

@@ -8,7 +8,7 @@ use Rattle.varint.specs.Varint.{Read, got, refuse, after}
 use Rattle.walks.specs.Graph.{itemCount}
 use Rattle.sheet.specs.Sheet.{Sheet}
 use Rattle.sheet.specs.Slip.{slipBytes}
-use Rattle.pass_rules.specs.Accepted.{accepted}
+use Rattle.sheet.specs.Reader.{taken}
 use Rattle.pass_rules.specs.Verdict.{verdict, isPruned, slipFor}
 use Rattle.sheet.specs.Answer.{Answer, answerOf}
 use Rattle.pass_rules.specs.Pass.{Outcome, outcome, lentEnough}
@@ -23,7 +23,7 @@ reasonIn i S rest =
     pick (ltb i (itemCount (S .graph))) (pick (prunes S i) (got (slipBytes (slipFor S 4 (i ∷ []))) rest) (refuse 16)) (refuse 15)
 
 unfoldable pub reasonOn : List ℕ → ℕ → Answer
-reasonOn sheet i = answerOf (after (accepted sheet) (reasonIn i))
+reasonOn sheet i = answerOf (after (taken sheet) (reasonIn i))
 
 -- reason, for every sheet, work, slip and item number
 unfoldable pub reasoned : List ℕ → List ℕ → List ℕ → ℕ → Outcome

@@ -16,105 +16,101 @@ use Rattle.sheet.specs.Sheet.{Sheet, required}
 abbrev pub Among : ℕ → Type 0
 Among w = (3 ≤ w) × (w ≤ 13)
 
--- what a reader refuses is one of them
-abbrev Refusing : {A : Type 0} → Read A → Type 0
-Refusing (got a bs) = Unit {0}
-Refusing (refuse w) = Among w
+-- what is refused, if anything, has the property
+abbrev pub Refusing : {A : Type 0} → (ℕ → Type 0) → Read A → Type 0
+Refusing P (got a bs) = Unit {0}
+Refusing P (refuse w) = P w
 
-after-refusing : {A B : Type 0} (r : Read A) (f : A → List ℕ → Read B) → Refusing r → ((a : A) (bs : List ℕ) → Refusing (f a bs)) → Refusing (after r f)
+pub after-refusing : (P : ℕ → Type 0) {A B : Type 0} (r : Read A) (f : A → List ℕ → Read B) → Refusing P r → ((a : A) (bs : List ℕ) → Refusing P (f a bs))
+    → Refusing P (after r f)
 unfolding after
-after-refusing (got a bs) f p q = q a bs
-after-refusing (refuse w) f p q = p
+after-refusing P (got a bs) f p q = q a bs
+after-refusing P (refuse w) f p q = p
 
-above-refusing : (b : ℕ) (r : Read ℕ) → Refusing r → Refusing (above b r)
+pub pick-refusing : (P : ℕ → Type 0) {A : Type 0} (t : Bool) (r s : Read A) → Refusing P r → Refusing P s → Refusing P (pick t r s)
+pick-refusing P true r s p q = p
+pick-refusing P false r s p q = q
+
+-- the property in other words, and of a refusal that is known
+pub refusing-more : (P Q : ℕ → Type 0) {A : Type 0} (r : Read A) → ((w : ℕ) → P w → Q w) → Refusing P r → Refusing Q r
+refusing-more P Q (got a bs) h p = tt
+refusing-more P Q (refuse w) h p = h w p
+
+pub refusing-is : (P : ℕ → Type 0) {A : Type 0} (r : Read A) (w : ℕ) → Refusing P r → r ≡ refuse w → P w
+refusing-is P (got a bs) w p e = absurd (let z : _≡_ {A = ℕ} 0 1 = cc in omega arith)
+refusing-is P (refuse v) w p e = let z : v ≡ w = cc in rw z at p
+
+above-refusing : (b : ℕ) (r : Read ℕ) → Refusing Among r → Refusing Among (above b r)
 unfolding above
 above-refusing b (got x bs) p = tt
 above-refusing b (refuse w) p = p
 
-last-refusing : (left b : ℕ) (bs : List ℕ) → Refusing (lastGroup left b bs)
+last-refusing : (left b : ℕ) (bs : List ℕ) → Refusing Among (lastGroup left b bs)
 unfolding lastGroup
-last-refusing left b bs = go (eqb b 0 && ltb left 3)
-  where
-    go : (t : Bool) → Refusing (pick t (refuse 4) (got b bs))
-    go true = (omega arith, omega arith)
-    go false = tt
+last-refusing left b bs = pick-refusing Among (eqb b 0 && ltb left 3) (refuse 4) (got b bs) (omega arith, omega arith) tt
 
-groups-refusing : (left : ℕ) (bs : List ℕ) → Refusing (readGroups left bs)
+groups-refusing : (left : ℕ) (bs : List ℕ) → Refusing Among (readGroups left bs)
 unfolding readGroups
 groups-refusing left [] = (omega arith, omega arith)
-groups-refusing zero (b ∷ bs) = go (ltb b 128)
-  where
-    go : (t : Bool) → Refusing (pick t (lastGroup zero b bs) (refuse 4))
-    go true = last-refusing zero b bs
-    go false = (omega arith, omega arith)
-groups-refusing (suc left) (b ∷ bs) = go (ltb b 128) (groups-refusing left bs)
-  where
-    go : (t : Bool) → Refusing (readGroups left bs) → Refusing (pick t (lastGroup (suc left) b bs) (above b (readGroups left bs)))
-    go true p = last-refusing (suc left) b bs
-    go false p = above-refusing b (readGroups left bs) p
+groups-refusing zero (b ∷ bs) = pick-refusing Among (ltb b 128) (lastGroup zero b bs) (refuse 4) (last-refusing zero b bs) (omega arith, omega arith)
+groups-refusing (suc left) (b ∷ bs) =
+    pick-refusing Among (ltb b 128) (lastGroup (suc left) b bs) (above b (readGroups left bs)) (last-refusing (suc left) b bs)
+    (above-refusing b (readGroups left bs) (groups-refusing left bs))
 
-number-refusing : (e : ℕ) (ok : ℕ → Bool) (bs : List ℕ) → Among e → Refusing (number e ok bs)
+number-refusing : (e : ℕ) (ok : ℕ → Bool) (bs : List ℕ) → Among e → Refusing Among (number e ok bs)
 unfolding number readNumber judged
-number-refusing e ok bs p = after-refusing (readNumber bs) (judged e ok) (groups-refusing 3 bs) (λ x rest. go x rest (ok x))
-  where
-    go : (x : ℕ) (rest : List ℕ) (t : Bool) → Refusing (pick t (got x rest) (refuse e))
-    go x rest true = tt
-    go x rest false = p
+number-refusing e ok bs p =
+    after-refusing Among (readNumber bs) (judged e ok) (groups-refusing 3 bs) (λ x rest. pick-refusing Among (ok x) (got x rest) (refuse e) tt p)
 
-several-refusing : {A : Type 0} (f : List ℕ → Read A) → ((bs : List ℕ) → Refusing (f bs)) → (k : ℕ) (bs : List ℕ) → Refusing (several f k bs)
+several-refusing : {A : Type 0} (f : List ℕ → Read A) → ((bs : List ℕ) → Refusing Among (f bs)) → (k : ℕ) (bs : List ℕ) → Refusing Among (several f k bs)
 unfolding several
 several-refusing f p zero bs = tt
 several-refusing f p (suc k) bs =
-    after-refusing (f bs) (λ a bs₁. after (several f k bs₁) (λ xs bs₂. got (a ∷ xs) bs₂)) (p bs)
-    (λ a bs₁. after-refusing (several f k bs₁) (λ xs bs₂. got (a ∷ xs) bs₂) (several-refusing f p k bs₁) (λ xs bs₂. tt))
+    after-refusing Among (f bs) (λ a bs₁. after (several f k bs₁) (λ xs bs₂. got (a ∷ xs) bs₂)) (p bs)
+    (λ a bs₁. after-refusing Among (several f k bs₁) (λ xs bs₂. got (a ∷ xs) bs₂) (several-refusing f p k bs₁) (λ xs bs₂. tt))
 
-arc-refusing : (n : ℕ) (bs : List ℕ) → Refusing (readArc n bs)
+arc-refusing : (n : ℕ) (bs : List ℕ) → Refusing Among (readArc n bs)
 unfolding readArc arcHead arcMinutes
 arc-refusing n bs =
-    after-refusing (number 9 (isNode n) bs) (arcHead n) (number-refusing 9 (isNode n) bs (omega arith, omega arith))
-    (λ t bs₁. after-refusing (number 9 (isOther n t) bs₁) (arcMinutes t) (number-refusing 9 (isOther n t) bs₁ (omega arith, omega arith))
-    (λ h bs₂. after-refusing (number 10 isMinutes bs₂) (λ w rest. got (record { tail = t; head = h; weight = w }) rest)
+    after-refusing Among (number 9 (isNode n) bs) (arcHead n) (number-refusing 9 (isNode n) bs (omega arith, omega arith))
+    (λ t bs₁. after-refusing Among (number 9 (isOther n t) bs₁) (arcMinutes t) (number-refusing 9 (isOther n t) bs₁ (omega arith, omega arith))
+    (λ h bs₂. after-refusing Among (number 10 isMinutes bs₂) (λ w rest. got (record { tail = t; head = h; weight = w }) rest)
     (number-refusing 10 isMinutes bs₂ (omega arith, omega arith)) (λ w rest. tt)))
 
-arcs-refusing : (h : Header) (bs : List ℕ) → Refusing (readArcs h bs)
+arcs-refusing : (h : Header) (bs : List ℕ) → Refusing Among (readArcs h bs)
 unfolding readArcs readMarks readMark
 arcs-refusing h bs =
-    after-refusing (several (readArc (h .nodes)) (h .arcs) bs) (readMarks h) (several-refusing (readArc (h .nodes)) (arc-refusing (h .nodes)) (h .arcs) bs)
-    (λ xs bs₁. after-refusing (several readMark (h .nodes + length xs) bs₁)
+    after-refusing Among (several (readArc (h .nodes)) (h .arcs) bs) (readMarks h) (several-refusing (readArc (h .nodes)) (arc-refusing (h .nodes)) (h .arcs) bs)
+    (λ xs bs₁. after-refusing Among (several readMark (h .nodes + length xs) bs₁)
     (λ ms rest. got (record { graph = record { nodes = h .nodes; arcs = xs }; source = h .source; target = h .target; limit = h .limit; marks = ms }) rest)
     (several-refusing readMark (λ bs. number-refusing 11 isMark bs (omega arith, omega arith)) (h .nodes + length xs) bs₁) (λ ms rest. tt))
 
-header-refusing : (bs : List ℕ) → Refusing (readHeader bs)
+header-refusing : (bs : List ℕ) → Refusing Among (readHeader bs)
 unfolding readHeader headerArcs headerSource headerTarget headerLimit
 header-refusing bs =
-    after-refusing (number 5 isNodeCount bs) headerArcs (number-refusing 5 isNodeCount bs (omega arith, omega arith))
-    (λ n bs₁. after-refusing (number 6 isArcCount bs₁) (headerSource n) (number-refusing 6 isArcCount bs₁ (omega arith, omega arith))
-    (λ m bs₂. after-refusing (number 7 (isNode n) bs₂) (headerTarget n m) (number-refusing 7 (isNode n) bs₂ (omega arith, omega arith))
-    (λ s bs₃. after-refusing (number 7 (isOther n s) bs₃) (headerLimit n m s) (number-refusing 7 (isOther n s) bs₃ (omega arith, omega arith))
-    (λ t bs₄. after-refusing (number 8 isLimit bs₄) (λ k rest. got (record { nodes = n; arcs = m; source = s; target = t; limit = k }) rest)
+    after-refusing Among (number 5 isNodeCount bs) headerArcs (number-refusing 5 isNodeCount bs (omega arith, omega arith))
+    (λ n bs₁. after-refusing Among (number 6 isArcCount bs₁) (headerSource n) (number-refusing 6 isArcCount bs₁ (omega arith, omega arith))
+    (λ m bs₂. after-refusing Among (number 7 (isNode n) bs₂) (headerTarget n m) (number-refusing 7 (isNode n) bs₂ (omega arith, omega arith))
+    (λ s bs₃. after-refusing Among (number 7 (isOther n s) bs₃) (headerLimit n m s) (number-refusing 7 (isOther n s) bs₃ (omega arith, omega arith))
+    (λ t bs₄. after-refusing Among (number 8 isLimit bs₄) (λ k rest. got (record { nodes = n; arcs = m; source = s; target = t; limit = k }) rest)
     (number-refusing 8 isLimit bs₄ (omega arith, omega arith)) (λ k rest. tt)))))
 
-sheet-refusing : (bs : List ℕ) → Refusing (readSheet bs)
+sheet-refusing : (bs : List ℕ) → Refusing Among (readSheet bs)
 unfolding readSheet
-sheet-refusing bs = after-refusing (readHeader bs) readArcs (header-refusing bs) arcs-refusing
+sheet-refusing bs = after-refusing Among (readHeader bs) readArcs (header-refusing bs) arcs-refusing
 
-complete-refusing : (S : Sheet) (bs : List ℕ) → Refusing (complete S bs)
+complete-refusing : (S : Sheet) (bs : List ℕ) → Refusing Among (complete S bs)
 unfolding complete
 complete-refusing S (b ∷ bs) = (omega arith, omega arith)
-complete-refusing S [] = go (leb (length (required S)) 8)
-  where
-    go : (t : Bool) → Refusing (pick t (got S []) (refuse 13))
-    go true = tt
-    go false = (omega arith, omega arith)
+complete-refusing S [] = pick-refusing Among (leb (length (required S)) 8) (got S []) (refuse 13) tt (omega arith, omega arith)
 
-refusing-among : {A : Type 0} (r : Read A) (w : ℕ) → Refusing r → r ≡ refuse w → Among w
-refusing-among (got a bs) w p e = absurd (let z : _≡_ {A = ℕ} 0 1 = cc in omega arith)
-refusing-among (refuse v) w p e = let z : v ≡ w = cc in rw z at p
+pub taken-refusing : (bs : List ℕ) → Refusing Among (taken bs)
+unfolding taken
+taken-refusing bs = after-refusing Among (readSheet bs) complete (sheet-refusing bs) complete-refusing
+
+pub taken-refuses : (bs : List ℕ) (w : ℕ) → taken bs ≡ refuse w → Among w
+taken-refuses bs w e = refusing-is Among (taken bs) w (taken-refusing bs) e
 
 pub number-refuses : (bs : List ℕ) (w : ℕ) → readNumber bs ≡ refuse w → Among w
 unfolding readNumber
-number-refuses bs w e = refusing-among (readNumber bs) w (groups-refusing 3 bs) e
-
-pub taken-refuses : (bs : List ℕ) (w : ℕ) → taken bs ≡ refuse w → Among w
-unfolding taken
-taken-refuses bs w e = refusing-among (taken bs) w (after-refusing (readSheet bs) complete (sheet-refusing bs) complete-refusing) e
+number-refuses bs w e = refusing-is Among (readNumber bs) w (groups-refusing 3 bs) e

@@ -169,8 +169,8 @@ pub got-taken : (bs : List ℕ) (S : Sheet) → Taken bs S → taken bs ≡ got 
 unfolding taken complete after
 got-taken bs S T = rw (T .whole, le-leb (length (required S)) 8 (T .few))
 
-pub taken-good : (bs : List ℕ) (S : Sheet) → Taken bs S → Good S
-taken-good bs S T = sheet-good bs S [] (T .whole)
+pub taken-good : (bs : List ℕ) (S : Sheet) (rest : List ℕ) → taken bs ≡ got S rest → Good S
+taken-good bs S rest e = sheet-good bs S [] (taken-got bs S rest e .0 .whole)
 
 -- so in a sheet; with none left, more than eight required items draw 13
 pub bytes-remain : (bs : List ℕ) (S : Sheet) (b : ℕ) (rest : List ℕ) → readSheet bs ≡ got S (b ∷ rest) → taken bs ≡ refuse 12

@@ -2,6 +2,7 @@
 -- nothing.
 use Prim.Native.Nat.{ℕ, _*_, _≤_}
 use mathlib.Core.Path.{_≡_, refl, ap, _∙_}
+use mathlib.Core.Logic.{_⊎_, inl, inr}
 use mathlib.Core.Bool.{Bool, true, false}
 use mathlib.Core.List.{List, [], _∷_, _++_}
 use native.Mathlib.Omega.{arith}
@@ -18,7 +19,7 @@ use Rattle.walks.specs.Graph.{Arc}
 use Rattle.walks.specs.Flat.{arcsOf, flat}
 use Rattle.sheet.proofs.MarkLaws.{unmarked}
 use Rattle.sheet.proofs.FaultLaws.{draft-low}
-use Rattle.sheet.proofs.SheetLaws.{taken-got, taken-good}
+use Rattle.sheet.proofs.SheetLaws.{taken-good}
 use Rattle.sheet.proofs.WriterLaws.{written-again, faultless-taken, faultless-good}
 use Rattle.sheet.specs.Answer.{finished, refused, wrote, fitted}
 use Rattle.sheet.specs.Draft.{headerNumbers, sheetNumbers, sheetBytes, Draft, sheetDraft, draftSheet}
@@ -63,19 +64,19 @@ sheet-size S g =
 
 -- so every sheet that is taken has at most so many
 pub taken-size : (bs : List ℕ) (S : Sheet) → Below 256 bs → taken bs ≡ got S [] → length bs ≤ 3144
-taken-size bs S B e = rw (written-again bs S B e .0) at (sheet-size S (taken-good bs S (taken-got bs S [] e .0)))
+taken-size bs S B e = rw (written-again bs S B e .0) at (sheet-size S (taken-good bs S [] e))
 
--- and so has every sheet that is written; what the writer gives is a number of at most 19 with such a length
-pub written-size : (d : Draft) (out : List ℕ) → (sheetWritten d out .number ≤ 19) × (sheetWritten d out .length ≤ 3144)
+-- and so has every sheet that is written; what the writer gives is a number of at most 13, or 19, with such a length
+pub written-size : (d : Draft) (out : List ℕ) → ((sheetWritten d out .number ≤ 13) ⊎ (sheetWritten d out .number ≡ 19)) × (sheetWritten d out .length ≤ 3144)
 unfolding sheetWritten writeOn wrote fitted
 written-size d out = go (eqb (draftFault d) 0) refl (leb (length (sheetBytes (draftSheet d))) (length out))
   where
     go : (t : Bool) → eqb (draftFault d) 0 ≡ t → (u : Bool)
         → let w = wrote (pick t (pick u (finished (sheetBytes (draftSheet d))) (refused 19)) (refused (draftFault d))) out in
-        (w .number ≤ 19) × (w .length ≤ 3144)
-    go true e true = (omega arith, sheet-size (draftSheet d) (faultless-good d (eqb-true _ 0 e)))
-    go true e false = (omega arith, omega arith)
-    go false e u = (omega (arith, draft-low d), omega arith)
+        ((w .number ≤ 13) ⊎ (w .number ≡ 19)) × (w .length ≤ 3144)
+    go true e true = (inl (omega arith), sheet-size (draftSheet d) (faultless-good d (eqb-true _ 0 e)))
+    go true e false = (inr refl, omega arith)
+    go false e u = (inl (draft-low d), omega arith)
 
 -- a longest sheet: 64 nodes, 512 arcs of 65,535 minutes, a limit of 1,000,000
 longest : Sheet

@@ -63,7 +63,7 @@ faultless-taken d e =
     rw (sheet-numbers d (f .sized)) (draft-back d (f .sized) (f .below) ∙ ap (λ (e : ℕ). faulted e (got (draftSheet d) [])) e)
 
 pub faultless-good : (d : Draft) → draftFault d ≡ 0 → Good (draftSheet d)
-faultless-good d e = taken-good _ (draftSheet d) (taken-got _ (draftSheet d) [] (faultless-taken d e) .0)
+faultless-good d e = taken-good _ (draftSheet d) [] (faultless-taken d e)
 
 -- what is written reads back as the same numbers
 pub written-back : (d : Draft) (out bytes : List ℕ) → writeOn d out ≡ finished bytes
@@ -97,7 +97,7 @@ module _ (bs : List ℕ) (S : Sheet) (B : Below 256 bs) (e : taken bs ≡ got S 
   faultless-again : draftFault (sheetDraft S) ≡ 0
   unfolding sheetBytes sheetNumbers draftNumbers headerOf
   faultless-again =
-      let s : Sized (headerOf S) (flat (S .graph .arcs)) (S .marks) = (length-flat (S .graph .arcs), taken-good bs S is-taken .size) in
+      let s : Sized (headerOf S) (flat (S .graph .arcs)) (S .marks) = (length-flat (S .graph .arcs), taken-good bs S [] e .size) in
       faulted-got (draftFault (sheetDraft S)) (got (draftSheet (sheetDraft S)) []) S []
       (sym (draft-back (sheetDraft S) s (numbers .small)) ∙ ap taken bytes-again ∙ e)
 

@@ -88,6 +88,6 @@ unfoldable pub complete : Sheet → List ℕ → Read Sheet
 complete S (b ∷ bs) = refuse 12
 complete S [] = pick (leb (length (required S)) 8) (got S []) (refuse 13)
 
--- the sheet, or the refusal: 3 to 13
+-- the sheet, or the refusal: 3 to 13; document 01, 'Reasons', accepts the sheets that are taken
 unfoldable pub taken : List ℕ → Read Sheet
 taken bs = after (readSheet bs) complete

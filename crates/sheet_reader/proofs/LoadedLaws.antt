@@ -68,7 +68,7 @@ loaded sheet d e arcs marks h q a m = go (taken sheet) refl q
         let hs : h ≡ headerOf S = took-is (headerOf S) z in
         let T = taken-got sheet S rest p in
         let b = taken-begun sheet p in
-        let g = taken-good sheet S (T .0) in
+        let g = taken-good sheet S rest p in
         let x : take (3 * h .arcs) arcs ≡ flat (S .graph .arcs) = rw (a, hs, b .0) (take-at (flat (S .graph .arcs)) _ (3 * length (S .graph .arcs)) (length-flat (S .graph .arcs))) in
         let y : take (h .nodes + h .arcs) marks ≡ S .marks = rw (m, hs, b .1) (take-at (S .marks) _ (itemCount (S .graph)) (g .size)) in
         rw (x, y, hs) (record { makes = p ∙ ap (got S) (T .1) ∙ ap (λ (Q : Sheet). got Q []) (sym (same-sheet S)); whole = sheet-whole S g (T .0 .few) })

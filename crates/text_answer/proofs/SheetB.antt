@@ -4,7 +4,6 @@ use mathlib.Core.Path.{_≡_, refl}
 use mathlib.Core.List.{List, [], _∷_, _++_}
 use Rattle.reason_list.specs.Reasons.{greedy, reasons}
 use Rattle.lists.specs.Lists.{member, every, keep, add, span}
-use Rattle.pass_rules.specs.Accepted.{overlong, shortEnough, accepted}
 use Rattle.sheet.specs.Answer.{answerOf}
 use Rattle.pass_rules.specs.Pass.{passOn}
 use Rattle.pass_rules.specs.Verdict.{fitsSheet, unmet, verdictFrom, verdict, isPruned, newMark, newMarks, reasonsFor, slipFor, passSlip}
@@ -23,5 +22,5 @@ sheetB =
 
 -- a space and a digit are 32 and 48 and more; each line ends with 10
 pub text-of-B : text sheetB (passOn sheetB) ≡ (verdictWord ++ (32 ∷ 48 ∷ 10 ∷ [])) ++ (struckWord ++ (32 ∷ 50 ∷ 32 ∷ 54 ∷ 32 ∷ 55 ∷ 32 ∷ 56 ∷ 10 ∷ []))
-unfolding sheetB member every keep add span after lastGroup above readGroups readNumber judged number several writeGroups writeNumber writeNumbers lesser within noArc tailOf headOf weightOf arcItem chain items len clear meets fit begin onward chains against leastOf least fits markOf isOpen isMandatory isForbidden allItems allArcs endsMandatory isForced isRequired required arcMinutes arcHead readArc readMark readMarks readArcs headerLimit headerTarget headerSource headerArcs readHeader readSheet complete taken slipNumbers slipBytes marksBytes greedy reasons overlong shortEnough accepted fitsSheet unmet verdictFrom verdict isPruned newMark newMarks reasonsFor slipFor passSlip answerOf passOn digits decimal spaced row line newlyForbidden standsText marksOf slipText text
+unfolding sheetB member every keep add span after lastGroup above readGroups readNumber judged number several writeGroups writeNumber writeNumbers lesser within noArc tailOf headOf weightOf arcItem chain items len clear meets fit begin onward chains against leastOf least fits markOf isOpen isMandatory isForbidden allItems allArcs endsMandatory isForced isRequired required arcMinutes arcHead readArc readMark readMarks readArcs headerLimit headerTarget headerSource headerArcs readHeader readSheet complete taken slipNumbers slipBytes marksBytes greedy reasons fitsSheet unmet verdictFrom verdict isPruned newMark newMarks reasonsFor slipFor passSlip answerOf passOn digits decimal spaced row line newlyForbidden standsText marksOf slipText text
 text-of-B = refl

@@ -12,11 +12,11 @@ use Rattle.lists.specs.Lists.{pick, keep, span}
 use Rattle.varint.specs.Varint.{got}
 use Rattle.walks.specs.Graph.{itemCount}
 use Rattle.sheet.specs.Sheet.{Sheet, markOf, isOpen, isForced, allItems}
-use Rattle.pass_rules.specs.Accepted.{accepted}
+use Rattle.sheet.specs.Reader.{taken}
 use Rattle.sheet.specs.Answer.{finished}
 use Rattle.pass_rules.specs.Pass.{passOn, verdictIn, markIn}
 use Rattle.pass_rules.specs.Verdict.{fitsSheet, isPruned, newMark}
-use Rattle.pass_rules.proofs.AcceptedLaws.{accepted-good}
+use Rattle.sheet.proofs.SheetLaws.{taken-good}
 use Rattle.pass_rules.proofs.Demand2.{marks-exact}
 use Rattle.text_answer.specs.Text.{newlyForbidden}
 
@@ -38,10 +38,10 @@ new-pruned S i = go (eqb (markOf S i) 0) refl (fitsSheet S (i ∷ [])) (isForced
     go true q true false = rw (eqb-true (markOf S i) 0 q)
 
 -- under verdict 0 the items struck are those that are pruned
-pub struck-is : (sheet slip : List ℕ) (S : Sheet) → accepted sheet ≡ got S [] → passOn sheet ≡ finished slip → verdictIn slip ≡ 0
+pub struck-is : (sheet slip : List ℕ) (S : Sheet) → taken sheet ≡ got S [] → passOn sheet ≡ finished slip → verdictIn slip ≡ 0
     → newlyForbidden (S .marks) slip ≡ keep (isPruned S) (allItems (S .graph))
 unfolding newlyForbidden allItems markOf
 struck-is sheet slip S a e z =
-    rw (accepted-good sheet S [] a .size)
+    rw (taken-good sheet S [] a .size)
     (keep-same (λ i. eqb (getD (S .marks) i 0) 0 && eqb (markIn slip i) 2) (isPruned S) (itemCount (S .graph)) 0
     (λ i l m. ap (λ (k : ℕ). eqb (markOf S i) 0 && eqb k 2) (marks-exact sheet S a slip e z i (omega arith)) ∙ new-pruned S i))

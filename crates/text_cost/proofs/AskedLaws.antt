@@ -15,10 +15,8 @@ use Rattle.sheet.specs.Reader.{taken}
 use Rattle.sheet.specs.Sheet.{Sheet}
 use Rattle.sheet.specs.Slip.{Slip, slipBytes, readSlip}
 use Rattle.reason_list.proofs.ReasonLaws.{reasons-closed}
-use Rattle.pass_rules.proofs.AcceptedLaws.{accepted-taken}
 use Rattle.pass_rules.proofs.SlipOfPass.{slip-small}
 use Rattle.pass_rules.specs.Verdict.{reasonsFor, slipFor}
-use Rattle.reason_rules.proofs.AnswerLaws.{Finished as Explained, reason-finished}
 use Rattle.reason_rules.specs.Reason.{reasonOn}
 use Rattle.slip_reader.specs.Form.{slipFrom, valuesAt, slipOf, SlipCounts}
 use Rattle.slip_reader.specs.declared.SlipForm.{SlipForm}
@@ -79,15 +77,12 @@ unread-text input n e = rw (← e)
 pub printed : {xs text : List ℕ} (d out : List ℕ) (r : ℕ) → xs ≡ text → Put xs d out r → Put text d out r × ((r ≤ length out) × (r ≡ length (take r out)))
 printed {xs} {text} d out r e w = let v : Put text d out r = rw (← e) w in (v, within text d out r (v .0) (v .1))
 
--- where reason finished, the sheet is taken and the item is pruned
+-- where reason finished, the sheet is taken
 pub never-refused : (sheet slip : List ℕ) (i w : ℕ) → reasonOn sheet i ≡ finished slip → taken sheet ≡ refuse w → ⊥
 unfolding reasonOn answerOf after
-never-refused sheet slip i w e t = let y = rw (accepted-taken sheet, t) at e in let z : _≡_ {A = ℕ} 0 1 = cc in omega arith
-
-pub explained : (sheet slip : List ℕ) (i : ℕ) (S : Sheet) → taken sheet ≡ got S [] → reasonOn sheet i ≡ finished slip → Explained S i slip
-explained sheet slip i S t e = reason-finished sheet S i slip (accepted-taken sheet ∙ t) e
+never-refused sheet slip i w e t = let y = rw t at e in let z : _≡_ {A = ℕ} 0 1 = cc in omega arith
 
 pub finished-text : (sheet slip : List ℕ) (i : ℕ) (S : Sheet) → taken sheet ≡ got S [] → reasonOn sheet i ≡ finished slip
     → textOf (answerOf (costFor i sheet)) ≡ costLines S i (reasonsFor S (i ∷ []))
 unfolding textOf
-finished-text sheet slip i S t e = rw (for-finishes sheet slip i S (accepted-taken sheet ∙ t) e)
+finished-text sheet slip i S t e = rw (for-finishes sheet slip i S t e)

@@ -28,7 +28,6 @@ use Rattle.slip_reader.specs.Form.{slipFrom, valuesAt, slipOf, SlipCounts}
 use Rattle.sheet.specs.Answer.{finished, answerOf}
 use Rattle.pass_rules.specs.Pass.{passOn, verdictIn, markIn}
 use Rattle.pass_rules.specs.Verdict.{verdict, slipFor, passSlip}
-use Rattle.pass_rules.proofs.AcceptedLaws.{accepted-taken}
 use Rattle.pass_rules.proofs.SlipOfPass.{PassSlipIs, marks, blames, pass-slip-is, slip-first, new-marks-size}
 use Rattle.text_answer.specs.Text.{newlyForbidden, standsText, blameText, marksOf, blamed, slipText}
 use Rattle.text_answer.proofs.LineParts.{stands-size, blame-size}
@@ -42,13 +41,13 @@ pub record Passed (sheet slip : List ℕ) : Type 0 where
 
 pub passed-slip : (sheet slip : List ℕ) → passOn sheet ≡ finished slip → Passed sheet slip
 unfolding passOn answerOf after
-passed-slip sheet slip e = go (taken sheet) refl (rw (accepted-taken sheet) at e)
+passed-slip sheet slip e = go (taken sheet) refl e
   where
     go : (r : Read Sheet) → taken sheet ≡ r → answerOf (after r (λ S rest. got (passSlip S (verdict S)) rest)) ≡ finished slip → Passed sheet slip
     go (refuse w) p z = absurd (let y : _≡_ {A = ℕ} 0 1 = cc in omega arith)
     go (got S rest) p z =
         let T = taken-got sheet S rest p in
-        let g = taken-good sheet S (T .0) in
+        let g = taken-good sheet S rest p in
         let y : passSlip S (verdict S) ≡ slip = cc in
         record { read = S; took = p ∙ ap (got S) (T .1); good = g; kind = subst (PassSlipIs S) y (pass-slip-is S g (T .0 .few)) }
 

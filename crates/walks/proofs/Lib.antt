@@ -6,5 +6,6 @@ pub mod BackLaws
 pub mod Through
 pub mod FitsLaws
 pub mod Bound
+pub mod Ring
 pub mod FlatLaws
 pub mod OpenedLaws

@@ -6,7 +6,8 @@ use lib.ListN.{take}
 use borrow.Author.Needs.{needs}
 use Rattle.sheet_reader.specs.Loaded.{Loaded}
 use Rattle.pass.proofs.OutcomeLaws.{wrote-none, wrote-bytes}
-use Rattle.pass.proofs.PassLaws.{bad-sheet, good-sheet}
+use Rattle.pass_rules.proofs.SlipOfPass.{pass-finishes}
+use Rattle.pass_rules.proofs.WithinLaws.{pass-refused}
 use Rattle.pass.proofs.pass_sheet.Statement.{statement}
 use Rattle.pass.proofs.pass_sheet.Tie as tie
 
@@ -26,7 +27,7 @@ enum-known-why : tie.Need-enum-known-why
 enum-known-why c = search needs
 
 returns : tie.Need-returns
-returns c = wrote-none (bad-sheet _ _ (c .before .before .before .before .before .read .ensures .1 .1 .1 .refused _ (c .before .why .given .1)))
+returns c = wrote-none (pass-refused _ _ .1 (c .before .before .before .before .before .read .ensures .1 .1 .1 .refused _ (c .before .why .given .1)))
 
 -- the sheet that was read
 loaded : (p : tie.After-header) → let q = p .before .before .before .before .read in
@@ -58,7 +59,7 @@ same-length : tie.Need-same-length
 same-length c = search needs
 
 returns-2 : tie.Need-returns-2
-returns-2 c = wrote-bytes _ (good-sheet _ _ (loaded (c .before .before .before .before .before .before .before .before .before) .makes)) (c .before .before .write-taken .ensures)
+returns-2 c = wrote-bytes _ (pass-finishes _ _ (loaded (c .before .before .before .before .before .before .before .before .before) .makes)) (c .before .before .write-taken .ensures)
 
 pub pass-sheet-spec : {M : Type 1} → statement M
 pass-sheet-spec =

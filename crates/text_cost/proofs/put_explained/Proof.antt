@@ -7,8 +7,8 @@ use lib.ListN.{take}
 use Rattle.sheet_reader.specs.Loaded.{Loaded}
 use Rattle.sheet.specs.Sheet.{sheetOf}
 use Rattle.sheet_required.proofs.WholeLaws.{items-are}
-use Rattle.reason_rules.proofs.AnswerLaws.{Finished}
-use Rattle.text_cost.proofs.AskedLaws.{never-refused, explained, finished-text}
+use Rattle.reason_rules.proofs.AnswerLaws.{Finished, reason-finished}
+use Rattle.text_cost.proofs.AskedLaws.{never-refused, finished-text}
 use Rattle.text_cost.proofs.put_explained.Statement.{statement}
 use Rattle.text_cost.proofs.put_explained.Tie as tie
 
@@ -38,7 +38,7 @@ loaded p = p .before .before .before .before .read .ensures .1 .1 .1 .took _ (p 
 -- the item that reason explained on it
 pruned : (p : tie.After-header) → let q = p .before .before .before .before .read in
     Finished (sheetOf (p .header .given .0 .0) (take (3 * p .header .given .0 .0 .arcs) (q .last .1 .0)) (take (p .header .given .0 .0 .nodes + p .header .given .0 .0 .arcs) (q .last .1 .1 .0))) (p .before .before .before .before .before .before .before .before .before .before .args .item) (p .before .before .before .before .before .before .before .before .before .before .args .slip .now)
-pruned p = explained _ _ _ _ (loaded p .makes) (p .before .before .before .before .before .before .before .before .before .before .pre .0)
+pruned p = reason-finished _ _ _ _ (loaded p .makes) (p .before .before .before .before .before .before .before .before .before .before .pre .0)
 
 mul-numbers : tie.Need-mul-numbers
 mul-numbers c = omega (arith, loaded (c .before .before) .whole .few)
