@@ -47,8 +47,8 @@ extern "C" {
 #endif
 
 /* The version of this header and of the answers it describes: 100 times the first number plus the
- * second, so 201 is 2.1. CHANGELOG.md says what each version changed. */
-#define WAYS_VERSION 201
+ * second, so 300 is 3.0. CHANGELOG.md says what each version changed. */
+#define WAYS_VERSION 300
 
 #define WAYS_WORK_BYTES 65536u /* what the work must have */
 #define WAYS_SLIP_BYTES 1200u  /* what the slip of ways_pass and ways_reason must have */
@@ -88,9 +88,9 @@ enum ways_verdict {
  * draws 4 at the byte that makes it so, whatever stands behind. ways_write judges the same numbers
  * in the same order, but that 3 comes behind 8. Which call draws which:
  *
- *   ways_pass     1 to 14
- *   ways_reason   1 to 16
- *   ways_check    1, 3 to 14, 17, 18
+ *   ways_pass     1 to 13
+ *   ways_reason   1 to 13, 15, 16
+ *   ways_check    1, 3 to 13, 17, 18
  *   ways_write    5 to 8, then 3, then 9 to 11, 13, 19
  */
 enum ways_refusal {
@@ -109,8 +109,6 @@ enum ways_refusal {
     WAYS_REFUSED_MARK = 11,        /* a mark is over 2 */
     WAYS_REFUSED_BYTES_LEFT = 12,  /* bytes remain behind the last mark */
     WAYS_REFUSED_STOPS = 13,       /* there are over eight counted items, legs as well as stops */
-    WAYS_REFUSED_LENGTH = 14,      /* the shortest walk clear of shut items that meets all counted
-                                    * items is longer than 4,294,967,295; no sheet draws it */
     WAYS_REFUSED_NO_ITEM = 15,     /* reason: there is no such item */
     WAYS_REFUSED_NOT_STRUCK = 16,  /* reason: the pass on this sheet does not strike the item */
     WAYS_REFUSED_SLIP_FORM = 17,   /* check: the slip ends early, has a badly written number, a
@@ -132,11 +130,11 @@ enum ways_refusal {
 
 /* Judges a sheet: writes the slip with its verdict.
  *
- * Returns 65,536 times the refusal (1 to 14), or the slip's length, at least 3 and under 1,200.
+ * Returns 65,536 times the refusal (1 to 13), or the slip's length, at least 3 and under 1,200.
  *
  *   sheet   is only read.
- *   work    Refused 1 to 13: as it was. Refused 14 or finished: its first 65,536 bytes are zero.
- *           Bytes beyond those are as they were. What it holds before has no effect.
+ *   work    Refused: as it was. Finished: its first 65,536 bytes are zero, the bytes beyond those
+ *           are as they were. What it holds before has no effect.
  *   slip    Refused: as it was. Finished: the slip is at its front, the bytes behind it are as they
  *           were. What it holds before has no effect.
  */
@@ -149,10 +147,11 @@ uint32_t ways_pass(const uint8_t *sheet, size_t sheet_len, uint8_t *work, size_t
  * An item is struck off when the verdict is 0, the sheet has it open, and no walk clear of the shut
  * items meets it within the limit.
  *
- * Returns 65,536 times the refusal (1 to 16), or the slip's length, at least 4 and under 1,200.
+ * Returns 65,536 times the refusal (1 to 13, 15, 16), or the slip's length, at least 4 and under
+ * 1,200.
  *
  *   sheet   is only read.
- *   work    Refused 1 to 13: as it was. Refused 14 to 16 or finished: its first 65,536 bytes are
+ *   work    Refused 1 to 13: as it was. Refused 15, 16 or finished: its first 65,536 bytes are
  *           zero. Bytes beyond those are as they were. What it holds before has no effect.
  *   slip    Refused: as it was. Finished: the slip is at its front, the bytes behind it are as they
  *           were. What it holds before has no effect.
@@ -170,11 +169,11 @@ uint32_t ways_reason(const uint8_t *sheet, size_t sheet_len, uint8_t *work, size
  * the goals of a 3 are all the counted items, nor whether a reason could be left out. It says yes
  * to each slip that ways_pass (verdict 1 to 3) and ways_reason write for the sheet.
  *
- * Returns 65,536 times the refusal (1, 3 to 14, 17, 18), or WAYS_YES or WAYS_NO.
+ * Returns 65,536 times the refusal (1, 3 to 13, 17, 18), or WAYS_YES or WAYS_NO.
  *
  *   sheet   is only read.
- *   work    Refused 1 or 3 to 13: as it was. Refused 14, 17, 18 or finished: its first 65,536 bytes
- *           are zero. Bytes beyond those are as they were. What it holds before has no effect.
+ *   work    Refused 1 or 3 to 13: as it was. Refused 17, 18 or finished: its first 65,536 bytes are
+ *           zero. Bytes beyond those are as they were. What it holds before has no effect.
  *   slip    is only read. It may have any length.
  */
 uint32_t ways_check(const uint8_t *sheet, size_t sheet_len, uint8_t *work, size_t work_len,

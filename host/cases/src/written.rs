@@ -87,6 +87,16 @@ pub fn sheet_b() -> Sheet {
     Sheet::new(4, 0, 3, 8, &[[0, 1, 4], [1, 3, 4], [0, 2, 3], [2, 3, 9], [1, 2, 1]])
 }
 
+/// Nodes in a row from the source 1 over 2, 3, .. to the target 0, and behind these arcs some from the target back to the source, all of them mandatory. Every walk
+/// that drives them all goes along the row once more than there are of them, so that no walk has fewer than nodes × (1 + mandatory) − 1 arcs.
+pub fn ring(nodes: u32, mandatory: usize, minutes: u32) -> Sheet {
+    let along = (1..nodes).map(|tail| [tail, (tail + 1) % nodes, minutes]);
+    let arcs: Vec<[u32; 3]> = along.chain(vec![[0, 1, minutes]; mandatory]).collect();
+    let sheet = Sheet::new(nodes, 1, 0, 0, &arcs);
+    let items = sheet.marks.len();
+    sheet.with_marks(items - mandatory..items, MANDATORY)
+}
+
 /// A sheet of 64 nodes and 512 arcs, and a node on it that only forbidden arcs enter, 385 of them side by side. To open any one of them would do, so all are listed.
 /// The other nodes lie in a ring with arcs both ways.
 pub fn behind_closures() -> (Sheet, u32) {

@@ -86,7 +86,6 @@ fn lent(work: &[u8], slip: Option<&[u8]>) -> Result<(), Refusal> {
     }
 }
 
-/// 14 is never drawn: a shortest walk through eight items has nine stretches of at most 63 arcs, and the items that are arcs, so less than 2^26 minutes.
 fn outcome(answer: Result<usize, Refusal>, work: &mut [u8]) -> u32 {
     if !matches!(answer, Err(refusal) if refusal <= LAST_THAT_KEEPS_WORK) {
         work[..WORK_BYTES].fill(0);

@@ -58,7 +58,7 @@ pub mod numbers {
     }
 }
 
-/// A call was refused with this number, 1 to 19.
+/// A call was refused with this number, 1 to 13 or 15 to 19.
 #[derive(Clone, Copy, Debug, PartialEq, Eq)]
 pub struct Refused(pub u32);
 
