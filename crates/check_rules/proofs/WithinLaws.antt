@@ -7,6 +7,7 @@ use mathlib.Core.List.{List}
 use native.Mathlib.Omega.{arith}
 use lib.ListN.{length}
 use lib.Dec.{ltb, leb}
+use borrow.Author.Tests.{leb-true}
 use Rattle.lists.specs.Lists.{pick}
 use Rattle.sheet.proofs.RefusalLaws.{Among, Refusing, after-refusing, pick-refusing, refusing-more, taken-refusing}
 use Rattle.sheet.specs.Lent.{workNumbers}
@@ -49,8 +50,8 @@ CheckNumber e = (e ≤ 1) ⊎ Refusal e
 pub check-refuses : (sheet work slip : List ℕ) → CheckNumber (checked sheet work slip .number)
 unfolding checked checkOutcome
 check-refuses sheet work slip =
-    answered (pick (ltb (length work) workNumbers) (refuse 1) (checkOn sheet slip))
-    (pick-refusing CheckNumber (ltb (length work) workNumbers) (refuse 1) (checkOn sheet slip) (inl (omega arith))
+    answered (pick (ltb (length work) workNumbers) (refuse _) (checkOn sheet slip))
+    (pick-refusing CheckNumber (ltb (length work) workNumbers) (refuse _) (checkOn sheet slip) (inl (leb-true _ 1 refl))
     (refusing-more Refusal CheckNumber (checkOn sheet slip) (λ e d. inr d) (check-drawn sheet slip)))
   where
     answered : (r : Read Bool) → Refusing CheckNumber r → CheckNumber (checkOutcome r work .number)

@@ -7,6 +7,7 @@ use mathlib.Core.List.{List}
 use native.Mathlib.Omega.{arith}
 use lib.ListN.{length}
 use lib.Dec.{ltb}
+use borrow.Author.Tests.{leb-true}
 use Rattle.lists.specs.Lists.{pick}
 use Rattle.sheet.proofs.RefusalLaws.{taken-refuses}
 use Rattle.sheet.proofs.SheetLaws.{taken-got, taken-good}
@@ -39,8 +40,7 @@ pub call-number : (P : ℕ → Type 0) (a : Answer) (work slip : List ℕ) → (
     → P (outcome (lentEnough work slip a) work slip .number)
 unfolding outcome lentEnough
 call-number P a work slip few own =
-    behind (ltb (length work) workNumbers) 1 (pick (ltb (length slip) 1200) (refused 2) a) (few 1 (omega arith))
-    (behind (ltb (length slip) 1200) 2 a (few 2 (omega arith)) (answered a own))
+    behind (ltb (length work) workNumbers) _ _ (few _ (leb-true _ 2 refl)) (behind (ltb (length slip) 1200) _ a (few _ (leb-true _ 2 refl)) (answered a own))
   where
     behind : (t : Bool) (e : ℕ) (a : Answer) → P e → P (outcome a work slip .number) → P (outcome (pick t (refused e) a) work slip .number)
     behind true e a p q = p
