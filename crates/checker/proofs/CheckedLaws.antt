@@ -18,7 +18,7 @@ use Rattle.slip_reader.specs.declared.SlipRead.{SlipRead}
 use Rattle.slip_reader.specs.declared.SlipRead.the-variants.{Got as SlipGot, Refused as SlipRefused}
 use Rattle.work.proofs.LeftLaws.{left-finished, left-refused}
 use Rattle.work.specs.Left.{left}
-use Rattle.check_rules.proofs.WithinLaws.{Drawn, check-drawn, refusal-fits}
+use Rattle.check_rules.proofs.WithinLaws.{Drawn, check-drawn, drawn-fits}
 use Rattle.check_rules.specs.Check.{judgedOn, checkOn, CheckOutcome, checkOutcome, checked}
 use Rattle.check_answer.specs.declared.CheckAnswer.{CheckAnswer}
 use Rattle.check_answer.specs.Answer.{checkAnswerOf}
@@ -47,7 +47,7 @@ given a work = record { number = a .number; yes = a .yes; work = work }
 given-is : (work : List ℕ) (r : Read Bool) → Drawn r → given (checkAnswerOf r) (left zeroed (checkAnswerOf r .number) work) ≡ checkOutcome r work
 unfolding checkAnswerOf checkOutcome workAfter
 given-is work (got answer rest) d = rw (left-finished zeroed work)
-given-is work (refuse e) d = rw (left-refused zeroed work e (λ z. absurd (omega (arith, refusal-fits d .0))))
+given-is work (refuse e) d = rw (left-refused zeroed work e (λ z. absurd (omega (arith, drawn-fits d .0))))
 
 module _ (sheet work slip : List ℕ) {a : CheckAnswer} where
   -- 1

@@ -2,6 +2,7 @@
 use mathlib.Core.Path.{_≡_, refl, sym, _∙_}
 use mathlib.Core.Logic.{_⊎_, inl, inr}
 use mathlib.Core.Bool.{Bool, true, false, not, _&&_, _||_, false≢true, true≢false}
+use Rattle.lists.specs.Lists.{pick}
 
 pub and-true : (a b : Bool) → (a && b) ≡ true → (a ≡ true) × (b ≡ true)
 and-true true b e = (refl, e)
@@ -45,3 +46,8 @@ false-of false h = refl
 -- contraposition
 pub false-back : (a b : Bool) → (a ≡ true → b ≡ true) → b ≡ false → a ≡ false
 false-back a b h e = false-of a (λ q. true≢false (sym (h q) ∙ e))
+
+-- what a test picks of two that both have a property has it
+pub pick-either : {A : Type 0} (P : A → Type 0) (t : Bool) (x y : A) → P x → P y → P (pick t x y)
+pick-either P true x y p q = p
+pick-either P false x y p q = q

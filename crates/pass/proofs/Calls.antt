@@ -1,21 +1,19 @@
 -- Demand 2 on the operation: what a call of pass that answers 0 has written, and that `refused-again` and `refused-minimal` hold of the slip of a refused
 -- round. Its contract says that a call gives and leaves `passed`, so each statement here is one about every such call. Assumes nothing.
 use Prim.Native.Nat.{ℕ, _<_}
-use mathlib.Core.Path.{_≡_, refl, sym, ap, _∙_}
+use mathlib.Core.Path.{_≡_, sym, ap, _∙_}
 use mathlib.Core.Logic.{_↔_}
 use mathlib.Core.Bool.{true}
 use mathlib.Core.List.{List, [], _∷_}
-use native.Mathlib.Omega.{arith}
 use Rattle.sheet.specs.Sheet.{Sheet, isOpen}
 use Rattle.sheet.specs.Slip.{Slip, readSlip}
-use Rattle.varint.specs.Varint.{Read, got, refuse, after}
+use Rattle.varint.specs.Varint.{got}
 use Rattle.pass.proofs.OutcomeLaws.{call-writes}
-use Rattle.pass_rules.proofs.WithinLaws.{pass-within}
-use Rattle.sheet.proofs.SheetLaws.{taken-got}
+use Rattle.pass_rules.proofs.WithinLaws.{pass-took, pass-within}
 use Rattle.pass_rules.proofs.Demand2.{Refusal, finished-is, verdict-in, prune-exact, refuse-exact, is-refused}
 use Rattle.pass_rules.proofs.VerdictLaws.{NoWalkOn}
 use Rattle.sheet.specs.Reader.{taken}
-use Rattle.sheet.specs.Answer.{finished, answerOf}
+use Rattle.sheet.specs.Answer.{finished}
 use Rattle.pass_rules.specs.Pass.{passOn, passed, written, verdictIn, markIn, Refuses}
 use Rattle.pass_rules.specs.Verdict.{verdict, slipFor}
 use Rattle.walks.specs.Graph.{itemCount}
@@ -27,12 +25,11 @@ pub record Finished (sheet work slip : List ℕ) : Type 0 where
   pub writes : passOn sheet ≡ finished (written (passed sheet work slip))
 
 pub call-finished : (sheet work slip : List ℕ) → passed sheet work slip .number ≡ 0 → Finished sheet work slip
-unfolding passed passOn answerOf after
-call-finished sheet work slip z = go (taken sheet) refl (call-writes (passOn sheet) work slip (pass-within sheet) z)
-  where
-    go : (r : Read Sheet) → taken sheet ≡ r → passOn sheet ≡ finished (written (passed sheet work slip)) → Finished sheet work slip
-    go (refuse w) e f = absurd (let y : _≡_ {A = ℕ} 0 1 = cc (rw e at f) in omega arith)
-    go (got S rest) e f = record { read = S; took = e ∙ ap (got S) (taken-got sheet S rest e .1); writes = f }
+unfolding passed
+call-finished sheet work slip z =
+    let f = call-writes (passOn sheet) work slip (pass-within sheet) z in
+    let t = pass-took sheet (written (passed sheet work slip)) f in
+    record { read = t .0; took = t .1; writes = f }
 
 module _ (sheet work slip : List ℕ) (z : passed sheet work slip .number ≡ 0) where
   -- a call that answers 0 with verdict 0 has struck off an open item exactly when no walk through it keeps to the limit

@@ -37,7 +37,7 @@ module _ (bs : List ℕ) (S : Sheet) (e : taken bs ≡ got S []) where
           }
 
   -- For the required items, mandatory arcs among them. Counted by stretches, nine of at most 63 arcs and the eight arcs that are required themselves, these are
-  -- 9 × 63 + 8 = 575 arcs; counted by the pairs of a node and how many goals were met, 64 × 9 of which a shortest walk passes each at most once, they are
+  -- 9 × 63 + 8 = 575 arcs; counted by the pairs of a node and how many goals were met, 64 × 9 of which some shortest walk passes none twice, they are
   -- 576 − 1. The proof goes by the pairs, and both counts agree.
   pub required-bound : (w : List ℕ) → fit (S .graph) (isForbidden S) (required S) (S .source) (S .target) w ≡ true
       → Shortest (S .graph) (isForbidden S) (required S) (S .source) (S .target)

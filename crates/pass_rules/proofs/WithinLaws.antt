@@ -2,13 +2,13 @@
 use Prim.Native.Nat.{ℕ, _≤_}
 use mathlib.Core.Path.{_≡_, refl, ap}
 use mathlib.Core.Logic.{_↔_}
-use mathlib.Core.Bool.{Bool, true, false}
-use mathlib.Core.List.{List}
+use mathlib.Core.List.{List, []}
 use native.Mathlib.Omega.{arith}
 use lib.ListN.{length}
 use lib.Dec.{ltb}
 use borrow.Author.Tests.{leb-true}
-use Rattle.lists.specs.Lists.{pick}
+use Rattle.lists.proofs.TestLaws.{pick-either}
+use Rattle.sheet.proofs.AnswerLaws.{answer-took}
 use Rattle.sheet.proofs.RefusalLaws.{taken-refuses}
 use Rattle.sheet.proofs.SheetLaws.{taken-got, taken-good}
 use Rattle.sheet.specs.Answer.{Answer, finished, refused, answerOf}
@@ -20,12 +20,6 @@ use Rattle.pass_rules.proofs.SlipOfPass.{pass-slip-size}
 use Rattle.pass_rules.specs.Pass.{outcome, lentEnough, passOn, passed}
 use Rattle.pass_rules.specs.Verdict.{verdict, passSlip}
 
--- an answer is refused as what was read is
-pub answer-refused : (r : Read (List ℕ)) (e : ℕ) → answerOf r ≡ refused e → r ≡ refuse e
-unfolding answerOf
-answer-refused (got bytes rest) e z = absurd (let y : _≡_ {A = ℕ} 0 1 = cc in omega arith)
-answer-refused (refuse w) e z = let y : w ≡ e = cc in ap refuse y
-
 -- pass draws exactly what the sheet does
 pub pass-refused : (sheet : List ℕ) (e : ℕ) → (passOn sheet ≡ refused e) ↔ (taken sheet ≡ refuse e)
 unfolding passOn answerOf after
@@ -35,20 +29,22 @@ pass-refused sheet e = (forth (taken sheet), λ z. rw z)
     forth (got S rest) z = absurd (let y : _≡_ {A = ℕ} 0 1 = cc in omega arith)
     forth (refuse w) z = let y : w ≡ e = cc in ap refuse y
 
+-- and finishes on a taken sheet alone
+pub pass-took : (sheet slip : List ℕ) → passOn sheet ≡ finished slip → (S : Sheet) × (taken sheet ≡ got S [])
+unfolding passOn
+pass-took sheet slip e = answer-took sheet (λ S rest. got (passSlip S (verdict S)) rest) slip e
+
 -- a property of 0, 1, 2 and of whatever an operation refuses holds of the number that a call gives
 pub call-number : (P : ℕ → Type 0) (a : Answer) (work slip : List ℕ) → ((e : ℕ) → e ≤ 2 → P e) → ((e : ℕ) → a ≡ refused e → P e)
     → P (outcome (lentEnough work slip a) work slip .number)
 unfolding outcome lentEnough
 call-number P a work slip few own =
-    behind (ltb (length work) workNumbers) _ _ (few _ (leb-true _ 2 refl)) (behind (ltb (length slip) 1200) _ a (few _ (leb-true _ 2 refl)) (answered a own))
+    pick-either (λ (a : Answer). P (outcome a work slip .number)) (ltb (length work) workNumbers) (refused _) _ (few _ (leb-true _ 2 refl))
+    (pick-either (λ (a : Answer). P (outcome a work slip .number)) (ltb (length slip) 1200) (refused _) a (few _ (leb-true _ 2 refl)) (go a own))
   where
-    behind : (t : Bool) (e : ℕ) (a : Answer) → P e → P (outcome a work slip .number) → P (outcome (pick t (refused e) a) work slip .number)
-    behind true e a p q = p
-    behind false e a p q = q
-
-    answered : (a : Answer) → ((e : ℕ) → a ≡ refused e → P e) → P (outcome a work slip .number)
-    answered (finished bytes) own = few 0 (omega arith)
-    answered (refused e) own = own e refl
+    go : (a : Answer) → ((e : ℕ) → a ≡ refused e → P e) → P (outcome a work slip .number)
+    go (finished bytes) own = few 0 (omega arith)
+    go (refused e) own = own e refl
 
 -- Pass refuses with 1 to 13 and with no other number; 0 is a call that finished.
 pub pass-refuses : (sheet work slip : List ℕ) → passed sheet work slip .number ≤ 13

@@ -9,7 +9,7 @@ use borrow.Author.Tests.{lt-ltb, le-ltb}
 use Rattle.varint.specs.Varint.{Read, got, refuse}
 use Rattle.check_answer.specs.declared.CheckAnswer.{CheckAnswer}
 use Rattle.check_answer.specs.Answer.{checkAnswerOf}
-use Rattle.check_rules.proofs.WithinLaws.{Drawn, check-drawn, refusal-fits}
+use Rattle.check_rules.proofs.WithinLaws.{Drawn, check-drawn, drawn-fits}
 use Rattle.check_rules.specs.Check.{checkOn}
 use Rattle.work.proofs.LeftLaws.{left-finished, left-refused}
 use Rattle.work.specs.Bytes.{zeroedBytes, bytesAfter}
@@ -23,7 +23,7 @@ told a work = record { number = 65536 * a .number + yesNumber (a .yes); work = l
 told-is : (work : List ℕ) (r : Read Bool) → Drawn r → told (checkAnswerOf r) work ≡ checkBytesOutcome r work
 unfolding checkAnswerOf checkBytesOutcome bytesAfter
 told-is work (got answer rest) l = rw (left-finished zeroedBytes work) (ap (λ (n : ℕ). record { number = n; work = zeroedBytes work }) (omega arith))
-told-is work (refuse e) l = rw (left-refused zeroedBytes work e (λ z. absurd (omega (arith, refusal-fits l .0)))) (ap (λ (n : ℕ). record { number = n; work = bytesAfter e work }) (omega arith))
+told-is work (refuse e) l = rw (left-refused zeroedBytes work e (λ z. absurd (omega (arith, drawn-fits l .0)))) (ap (λ (n : ℕ). record { number = n; work = bytesAfter e work }) (omega arith))
 
 module _ (sheet work slip : List ℕ) where
   -- 1: too few bytes of work
@@ -45,4 +45,4 @@ module _ (sheet work slip : List ℕ) where
       where
         go : (r : Read Bool) → Drawn r → checkAnswerOf r .number ≤ 27
         go (got answer rest) l = omega arith
-        go (refuse e) l = omega (arith, refusal-fits l .1)
+        go (refuse e) l = omega (arith, drawn-fits l .1)

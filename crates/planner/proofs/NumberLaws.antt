@@ -8,7 +8,7 @@ use mathlib.Core.List.{List}
 use native.Mathlib.Omega.{arith}
 use lib.ListN.{length}
 use lib.Dec.{ltb}
-use Rattle.lists.specs.Lists.{pick}
+use Rattle.lists.proofs.TestLaws.{pick-either}
 use Rattle.varint.specs.Varint.{Read, got, refuse}
 use Rattle.sheet.proofs.RefusalLaws.{taken-refuses}
 use Rattle.sheet.proofs.SizeLaws.{written-size}
@@ -17,7 +17,7 @@ use Rattle.sheet.specs.Draft.{Draft}
 use Rattle.sheet.specs.Writer.{sheetWritten}
 use Rattle.pass_rules.proofs.WithinLaws.{Within, pass-refused, pass-within}
 use Rattle.pass_rules.specs.Pass.{passOn}
-use Rattle.reason_rules.proofs.WithinLaws.{ReasonNumber, reason-refused, refusal-number, reason-within}
+use Rattle.reason_rules.proofs.WithinLaws.{ReasonNumber, reason-refused, reason-within}
 use Rattle.reason_rules.specs.Reason.{reasonOn}
 use Rattle.check_rules.proofs.WithinLaws.{Drawn, CheckNumber, check-drawn}
 use Rattle.check_rules.specs.Check.{checkOn}
@@ -30,18 +30,21 @@ use Rattle.planner.specs.Write.{oneNumber, writtenNumber}
 held : (P : ℕ → Type 0) (e number : ℕ) → 65536 * e ≤ number → number < 65536 * e + 65536 → P e → P (number / 65536)
 held P e number low high p = let q : number / 65536 ≡ e = omega arith in subst P (sym q) p
 
-module _ (P : ℕ → Type 0) where
-  -- a property of 0, 1, 2 and of whatever pass or reason refuse holds of it
-  bytes-number : (a : Answer) (work slip : List ℕ) → Within a → ((e : ℕ) → e ≤ 2 → P e) → ((e : ℕ) → a ≡ refused e → P e)
-      → P (bytesOutcome (bytesEnough work slip a) work slip .number / 65536)
-  unfolding bytesOutcome bytesEnough
-  bytes-number a work slip l few own = go (ltb (length work) workBytes) (ltb (length slip) 1200) a l own
-    where
-      go : (t u : Bool) (a : Answer) → Within a → ((e : ℕ) → a ≡ refused e → P e) → P (bytesOutcome (pick t (refused 1) (pick u (refused 2) a)) work slip .number / 65536)
-      go true u a l own = held P 1 65536 (omega arith) (omega arith) (few 1 (omega arith))
-      go false true a l own = held P 2 131072 (omega arith) (omega arith) (few 2 (omega arith))
-      go false false (finished bytes) l own = held P 0 (length bytes) (omega arith) (omega arith) (few 0 (omega arith))
-      go false false (refused e) l own = held P e (65536 * e) (omega arith) (omega arith) (own e refl)
+-- of a refused call the number is just that
+refused-holds : (P : ℕ → Type 0) (e : ℕ) → P e → P (65536 * e / 65536)
+refused-holds P e p = held P e (65536 * e) (omega arith) (omega arith) p
+
+-- a property of 0, 1, 2 and of whatever pass or reason refuse holds of the refusal
+bytes-number : (P : ℕ → Type 0) (a : Answer) (work slip : List ℕ) → Within a → ((e : ℕ) → e ≤ 2 → P e) → ((e : ℕ) → a ≡ refused e → P e)
+    → P (bytesOutcome (bytesEnough work slip a) work slip .number / 65536)
+unfolding bytesOutcome bytesEnough
+bytes-number P a work slip l few own =
+    pick-either (λ (a : Answer). P (bytesOutcome a work slip .number / 65536)) (ltb (length work) workBytes) (refused 1) _ (refused-holds P 1 (few 1 (omega arith)))
+    (pick-either (λ (a : Answer). P (bytesOutcome a work slip .number / 65536)) (ltb (length slip) 1200) (refused 2) a (refused-holds P 2 (few 2 (omega arith))) (go a l own))
+  where
+    go : (a : Answer) → Within a → ((e : ℕ) → a ≡ refused e → P e) → P (bytesOutcome a work slip .number / 65536)
+    go (finished bytes) l own = held P 0 (length bytes) (omega arith) (omega arith) (few 0 (omega arith))
+    go (refused e) l own = refused-holds P e (own e refl)
 
 pub pass-one-number : (sheet work slip : List ℕ) → passedBytes sheet work slip .number / 65536 ≤ 13
 unfolding passedBytes
@@ -51,17 +54,18 @@ pass-one-number sheet work slip =
 pub reason-one-number : (sheet work slip : List ℕ) (i : ℕ) → ReasonNumber (reasonedBytes sheet work slip i .number / 65536)
 unfolding reasonedBytes
 reason-one-number sheet work slip i =
-    bytes-number ReasonNumber (reasonOn sheet i) work slip (reason-within sheet i) (λ e h. inl (omega arith)) (λ e z. refusal-number e (reason-refused sheet i e z))
+    bytes-number ReasonNumber (reasonOn sheet i) work slip (reason-within sheet i) (λ e h. inl h) (λ e z. inr (reason-refused sheet i e z))
 
 pub check-one-number : (sheet work slip : List ℕ) → CheckNumber (checkedBytes sheet work slip .number / 65536)
 unfolding checkedBytes checkBytesOutcome
-check-one-number sheet work slip = go (ltb (length work) workBytes) (checkOn sheet slip) (check-drawn sheet slip)
+check-one-number sheet work slip =
+    pick-either (λ (r : Read Bool). CheckNumber (checkBytesOutcome r work .number / 65536)) (ltb (length work) workBytes) (refuse 1) (checkOn sheet slip)
+    (refused-holds CheckNumber 1 (inl (omega arith))) (go (checkOn sheet slip) (check-drawn sheet slip))
   where
-    go : (t : Bool) (r : Read Bool) → Drawn r → CheckNumber (checkBytesOutcome (pick t (refuse 1) r) work .number / 65536)
-    go true r d = held CheckNumber 1 65536 (omega arith) (omega arith) (inl (omega arith))
-    go false (got true rest) d = held CheckNumber 0 1 (omega arith) (omega arith) (inl (omega arith))
-    go false (got false rest) d = held CheckNumber 0 0 (omega arith) (omega arith) (inl (omega arith))
-    go false (refuse e) d = held CheckNumber e (65536 * e) (omega arith) (omega arith) (inr d)
+    go : (r : Read Bool) → Drawn r → CheckNumber (checkBytesOutcome r work .number / 65536)
+    go (got true rest) d = held CheckNumber 0 1 (omega arith) (omega arith) (inl (omega arith))
+    go (got false rest) d = held CheckNumber 0 0 (omega arith) (omega arith) (inl (omega arith))
+    go (refuse e) d = refused-holds CheckNumber e (inr d)
 
 pub write-one-number : (d : Draft) (out : List ℕ)
     → (writtenNumber d out .number / 65536 ≤ 13) ⊎ (writtenNumber d out .number / 65536 ≡ 19)

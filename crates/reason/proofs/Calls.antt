@@ -1,21 +1,19 @@
 -- Demand 3 on the operation: a call of reason that answers 0 explains its item, so that `pruned-again` and `pruned-minimal` hold of the slip it wrote.
 -- Assumes nothing.
 use Prim.Native.Nat.{ℕ}
-use mathlib.Core.Path.{_≡_, refl, sym, ap, _∙_}
+use mathlib.Core.Path.{_≡_, sym, ap, _∙_}
 use mathlib.Core.List.{List, [], _∷_}
-use native.Mathlib.Omega.{arith}
 use Rattle.sheet.specs.Sheet.{Sheet}
 use Rattle.sheet.specs.Slip.{readSlip}
-use Rattle.varint.specs.Varint.{Read, got, refuse, after}
-use Rattle.sheet.proofs.SheetLaws.{taken-got}
+use Rattle.varint.specs.Varint.{got}
 use Rattle.pass_rules.proofs.Demand2.{finished-is}
 use Rattle.sheet.specs.Reader.{taken}
-use Rattle.sheet.specs.Answer.{finished, answerOf}
+use Rattle.sheet.specs.Answer.{finished}
 use Rattle.pass_rules.specs.Pass.{written}
 use Rattle.pass_rules.specs.Verdict.{slipFor}
 use Rattle.pass.proofs.OutcomeLaws.{call-writes}
 use Rattle.reason_rules.proofs.WithinLaws.{reason-within}
-use Rattle.reason_rules.proofs.AnswerLaws.{reason-finished, reason-finishes}
+use Rattle.reason_rules.proofs.AnswerLaws.{reason-took, reason-finished, reason-finishes}
 use Rattle.reason_rules.specs.Later.{Explains}
 use Rattle.reason_rules.specs.Reason.{reasonOn, reasoned}
 
@@ -26,12 +24,11 @@ pub record Finished (sheet work slip : List ℕ) (i : ℕ) : Type 0 where
   pub writes : reasonOn sheet i ≡ finished (written (reasoned sheet work slip i))
 
 pub call-finished : (sheet work slip : List ℕ) (i : ℕ) → reasoned sheet work slip i .number ≡ 0 → Finished sheet work slip i
-unfolding reasoned reasonOn answerOf after
-call-finished sheet work slip i z = go (taken sheet) refl (call-writes (reasonOn sheet i) work slip (reason-within sheet i) z)
-  where
-    go : (r : Read Sheet) → taken sheet ≡ r → reasonOn sheet i ≡ finished (written (reasoned sheet work slip i)) → Finished sheet work slip i
-    go (refuse w) e f = absurd (let y : _≡_ {A = ℕ} 0 1 = cc (rw e at f) in omega arith)
-    go (got S rest) e f = record { read = S; took = e ∙ ap (got S) (taken-got sheet S rest e .1); writes = f }
+unfolding reasoned
+call-finished sheet work slip i z =
+    let f = call-writes (reasonOn sheet i) work slip (reason-within sheet i) z in
+    let t = reason-took sheet i (written (reasoned sheet work slip i)) f in
+    record { read = t .0; took = t .1; writes = f }
 
 -- what the call left reads as a 4, the item as its only goal, and the reasons for it
 pub call-explains : (sheet work slip : List ℕ) (i : ℕ) → reasoned sheet work slip i .number ≡ 0

@@ -9,6 +9,7 @@ use lib.Dec.{eqb, ltb}
 use borrow.Author.Tests.{eqb-true, eq-eqb, ltb-true, lt-ltb}
 use Rattle.lists.proofs.Pigeonhole.{Below}
 use Rattle.lists.proofs.TestLaws.{and-true}
+use Rattle.sheet.proofs.AnswerLaws.{answer-took}
 use Rattle.sheet.proofs.SheetLaws.{taken-good}
 use Rattle.pass_rules.proofs.SlipOfPass.{slip-small}
 use Rattle.sheet.specs.Reader.{taken}
@@ -26,6 +27,11 @@ use Rattle.reason_rules.specs.Reason.{prunes, reasonIn, reasonOn}
 -- a pruned item's slip is small
 item-small : (sheet : List ℕ) (S : Sheet) (i : ℕ) → taken sheet ≡ got S [] → i < itemCount (S .graph) → Small (slipFor S 4 (i ∷ []))
 item-small sheet S i a h = slip-small S (taken-good sheet S [] a) 4 (i ∷ []) (omega arith) (omega arith) (omega arith) (h, tt)
+
+-- reason finishes on a taken sheet alone
+pub reason-took : (sheet : List ℕ) (i : ℕ) (slip : List ℕ) → reasonOn sheet i ≡ finished slip → (S : Sheet) × (taken sheet ≡ got S [])
+unfolding reasonOn
+reason-took sheet i slip e = answer-took sheet (reasonIn i) slip e
 
 -- where reason finishes, the pass prunes the item, and the slip has its reasons
 pub record Finished (S : Sheet) (i : ℕ) (slip : List ℕ) : Type 0 where

@@ -3,6 +3,7 @@ pub mod MarkLaws
 pub mod SlipLaws
 pub mod ArcViewLaws
 pub mod RefusalLaws
+pub mod AnswerLaws
 pub mod BackLaws
 pub mod AgainLaws
 pub mod FaultLaws

@@ -1,12 +1,13 @@
 -- A number or a sheet that is not taken draws one of 3 to 13. Assumes nothing.
 use Prim.Native.Nat.{ℕ, zero, suc, _+_, _≤_}
 use mathlib.Core.Path.{_≡_}
-use mathlib.Core.Bool.{Bool, true, false, _&&_}
+use mathlib.Core.Logic.{_⊎_, inl, inr}
+use mathlib.Core.Bool.{Bool, _&&_}
 use mathlib.Core.List.{List, [], _∷_}
 use native.Mathlib.Omega.{arith}
 use lib.ListN.{length}
 use lib.Dec.{eqb, leb, ltb}
-use Rattle.lists.specs.Lists.{pick}
+use Rattle.lists.proofs.TestLaws.{pick-either}
 use Rattle.varint.specs.Varint.{Read, got, refuse, after, lastGroup, above, readGroups, readNumber, judged, number, several}
 use Rattle.sheet.specs.declared.Header.{Header}
 use Rattle.sheet.specs.Reader.{isNodeCount, isArcCount, isNode, isOther, isLimit, isMinutes, isMark, headerLimit, headerTarget, headerSource, headerArcs, readHeader, arcMinutes, arcHead, readArc, readMark, readMarks, readArcs, readSheet, complete, taken}
@@ -15,6 +16,15 @@ use Rattle.sheet.specs.Sheet.{Sheet, required}
 -- the refusals of a sheet
 abbrev pub Among : ℕ → Type 0
 Among w = (3 ≤ w) × (w ≤ 13)
+
+-- or one of two that an operation has of its own
+abbrev pub AmongOr : ℕ → ℕ → ℕ → Type 0
+AmongOr a b w = Among w ⊎ ((w ≡ a) ⊎ (w ≡ b))
+
+pub among-or-fits : {a b w : ℕ} → 13 ≤ a → a ≤ b → AmongOr a b w → (1 ≤ w) × (w ≤ b)
+among-or-fits h g (inl p) = (omega (arith, p .0), omega (arith, p .1))
+among-or-fits h g (inr (inl e)) = (omega (arith, e), omega (arith, e))
+among-or-fits h g (inr (inr e)) = (omega (arith, e), omega (arith, e))
 
 -- what is refused, if anything, has the property
 abbrev pub Refusing : {A : Type 0} → (ℕ → Type 0) → Read A → Type 0
@@ -27,12 +37,8 @@ unfolding after
 after-refusing P (got a bs) f p q = q a bs
 after-refusing P (refuse w) f p q = p
 
-pub pick-refusing : (P : ℕ → Type 0) {A : Type 0} (t : Bool) (r s : Read A) → Refusing P r → Refusing P s → Refusing P (pick t r s)
-pick-refusing P true r s p q = p
-pick-refusing P false r s p q = q
-
 -- the property in other words, and of a refusal that is known
-pub refusing-more : (P Q : ℕ → Type 0) {A : Type 0} (r : Read A) → ((w : ℕ) → P w → Q w) → Refusing P r → Refusing Q r
+refusing-more : (P Q : ℕ → Type 0) {A : Type 0} (r : Read A) → ((w : ℕ) → P w → Q w) → Refusing P r → Refusing Q r
 refusing-more P Q (got a bs) h p = tt
 refusing-more P Q (refuse w) h p = h w p
 
@@ -47,20 +53,20 @@ above-refusing b (refuse w) p = p
 
 last-refusing : (left b : ℕ) (bs : List ℕ) → Refusing Among (lastGroup left b bs)
 unfolding lastGroup
-last-refusing left b bs = pick-refusing Among (eqb b 0 && ltb left 3) (refuse 4) (got b bs) (omega arith, omega arith) tt
+last-refusing left b bs = pick-either (Refusing Among) (eqb b 0 && ltb left 3) (refuse 4) (got b bs) (omega arith, omega arith) tt
 
 groups-refusing : (left : ℕ) (bs : List ℕ) → Refusing Among (readGroups left bs)
 unfolding readGroups
 groups-refusing left [] = (omega arith, omega arith)
-groups-refusing zero (b ∷ bs) = pick-refusing Among (ltb b 128) (lastGroup zero b bs) (refuse 4) (last-refusing zero b bs) (omega arith, omega arith)
+groups-refusing zero (b ∷ bs) = pick-either (Refusing Among) (ltb b 128) (lastGroup zero b bs) (refuse 4) (last-refusing zero b bs) (omega arith, omega arith)
 groups-refusing (suc left) (b ∷ bs) =
-    pick-refusing Among (ltb b 128) (lastGroup (suc left) b bs) (above b (readGroups left bs)) (last-refusing (suc left) b bs)
+    pick-either (Refusing Among) (ltb b 128) (lastGroup (suc left) b bs) (above b (readGroups left bs)) (last-refusing (suc left) b bs)
     (above-refusing b (readGroups left bs) (groups-refusing left bs))
 
 number-refusing : (e : ℕ) (ok : ℕ → Bool) (bs : List ℕ) → Among e → Refusing Among (number e ok bs)
 unfolding number readNumber judged
 number-refusing e ok bs p =
-    after-refusing Among (readNumber bs) (judged e ok) (groups-refusing 3 bs) (λ x rest. pick-refusing Among (ok x) (got x rest) (refuse e) tt p)
+    after-refusing Among (readNumber bs) (judged e ok) (groups-refusing 3 bs) (λ x rest. pick-either (Refusing Among) (ok x) (got x rest) (refuse e) tt p)
 
 several-refusing : {A : Type 0} (f : List ℕ → Read A) → ((bs : List ℕ) → Refusing Among (f bs)) → (k : ℕ) (bs : List ℕ) → Refusing Among (several f k bs)
 unfolding several
@@ -102,11 +108,14 @@ sheet-refusing bs = after-refusing Among (readHeader bs) readArcs (header-refusi
 complete-refusing : (S : Sheet) (bs : List ℕ) → Refusing Among (complete S bs)
 unfolding complete
 complete-refusing S (b ∷ bs) = (omega arith, omega arith)
-complete-refusing S [] = pick-refusing Among (leb (length (required S)) 8) (got S []) (refuse 13) tt (omega arith, omega arith)
+complete-refusing S [] = pick-either (Refusing Among) (leb (length (required S)) 8) (got S []) (refuse 13) tt (omega arith, omega arith)
 
-pub taken-refusing : (bs : List ℕ) → Refusing Among (taken bs)
+taken-refusing : (bs : List ℕ) → Refusing Among (taken bs)
 unfolding taken
 taken-refusing bs = after-refusing Among (readSheet bs) complete (sheet-refusing bs) complete-refusing
+
+pub taken-refusing-or : (a b : ℕ) (bs : List ℕ) → Refusing (AmongOr a b) (taken bs)
+taken-refusing-or a b bs = refusing-more Among (AmongOr a b) (taken bs) (λ w p. inl p) (taken-refusing bs)
 
 pub taken-refuses : (bs : List ℕ) (w : ℕ) → taken bs ≡ refuse w → Among w
 taken-refuses bs w e = refusing-is Among (taken bs) w (taken-refusing bs) e

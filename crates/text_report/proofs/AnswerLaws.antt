@@ -7,6 +7,7 @@ use native.Mathlib.Omega.{arith}
 use lib.ListN.{length}
 use lib.Dec.{ltb}
 use borrow.Author.Tests.{le-ltb}
+use Rattle.lists.proofs.TestLaws.{pick-either}
 use Rattle.lists.specs.Lists.{pick}
 use Rattle.sheet.specs.Lent.{workNumbers}
 use Rattle.sheet.specs.Answer.{Answer, finished, refused}
@@ -17,11 +18,7 @@ use Rattle.text_answer.specs.Text.{refusedText, slipText, text, answer}
 
 answer-within : (sheet work : List ℕ) → Within (answer sheet work)
 unfolding answer
-answer-within sheet work = go (ltb (length work) workNumbers)
-  where
-    go : (t : Bool) → Within (pick t (refused 1) (passOn sheet))
-    go true = (omega arith, omega arith)
-    go false = pass-within sheet
+answer-within sheet work = pick-either Within (ltb (length work) workNumbers) (refused 1) (passOn sheet) (omega arith, omega arith) (pass-within sheet)
 
 -- a call with enough work that finishes passes the sheet
 pub answer-finishes : (sheet work bs : List ℕ) → answer sheet work ≡ finished bs → passOn sheet ≡ finished bs

@@ -13,7 +13,7 @@ use Rattle.lists.proofs.AscendLaws.{keep-ascends, ascends-distinct, span-member
 use Rattle.lists.proofs.MemberLaws.{keep-member}
 use Rattle.lists.proofs.Pigeonhole.{Below, below-all, pigeonhole}
 use Rattle.varint.proofs.WriteLaws.{small-below}
-use Rattle.varint.specs.Varint.{Read, got, refuse, after}
+use Rattle.varint.specs.Varint.{got, refuse}
 use Rattle.varint.specs.Answer.{small}
 use Rattle.walks.specs.Graph.{itemCount}
 use Rattle.sheet.specs.Good.{Good}
@@ -25,10 +25,12 @@ use Rattle.sheet.proofs.SlipLaws.{Small, slip-back}
 use Rattle.slip_reader.specs.declared.SlipForm.{SlipForm}
 use Rattle.slip_reader.specs.declared.SlipRead.the-variants.{Got as SlipGot, Refused as SlipRefused}
 use Rattle.slip_reader.specs.Form.{slipFrom, valuesAt, slipOf, SlipCounts}
-use Rattle.sheet.specs.Answer.{finished, answerOf}
+use Rattle.sheet.specs.Answer.{finished}
 use Rattle.pass_rules.specs.Pass.{passOn, verdictIn, markIn}
 use Rattle.pass_rules.specs.Verdict.{verdict, slipFor, passSlip}
-use Rattle.pass_rules.proofs.SlipOfPass.{PassSlipIs, marks, blames, pass-slip-is, slip-first, new-marks-size}
+use Rattle.pass_rules.proofs.Demand2.{finished-is}
+use Rattle.pass_rules.proofs.WithinLaws.{pass-took}
+use Rattle.pass_rules.proofs.SlipOfPass.{PassSlipIs, marks, blames, pass-slip-is, pass-finishes, slip-first, new-marks-size}
 use Rattle.text_answer.specs.Text.{newlyForbidden, standsText, blameText, marksOf, blamed, slipText}
 use Rattle.text_answer.proofs.LineParts.{stands-size, blame-size}
 
@@ -40,16 +42,12 @@ pub record Passed (sheet slip : List ℕ) : Type 0 where
   pub kind : PassSlipIs read slip
 
 pub passed-slip : (sheet slip : List ℕ) → passOn sheet ≡ finished slip → Passed sheet slip
-unfolding passOn answerOf after
-passed-slip sheet slip e = go (taken sheet) refl e
-  where
-    go : (r : Read Sheet) → taken sheet ≡ r → answerOf (after r (λ S rest. got (passSlip S (verdict S)) rest)) ≡ finished slip → Passed sheet slip
-    go (refuse w) p z = absurd (let y : _≡_ {A = ℕ} 0 1 = cc in omega arith)
-    go (got S rest) p z =
-        let T = taken-got sheet S rest p in
-        let g = taken-good sheet S rest p in
-        let y : passSlip S (verdict S) ≡ slip = cc in
-        record { read = S; took = p ∙ ap (got S) (T .1); good = g; kind = subst (PassSlipIs S) y (pass-slip-is S g (T .0 .few)) }
+passed-slip sheet slip e =
+    let t = pass-took sheet slip e in
+    let S = t .0 in
+    let g = taken-good sheet S [] (t .1) in
+    let y = finished-is (passSlip S (verdict S)) slip (sym (pass-finishes sheet S (t .1)) ∙ e) in
+    record { read = S; took = t .1; good = g; kind = subst (PassSlipIs S) y (pass-slip-is S g (taken-got sheet S [] (t .1) .0 .few)) }
 
 pub never-refused : (sheet slip : List ℕ) (w : ℕ) → passOn sheet ≡ finished slip → taken sheet ≡ refuse w → ⊥
 never-refused sheet slip w e t = let P = passed-slip sheet slip e in let y : _≡_ {A = ℕ} 0 1 = cc (P .took) in omega arith

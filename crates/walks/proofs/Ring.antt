@@ -16,10 +16,10 @@ abbrev step : ℕ → ℕ → Arc
 step a b = record { tail = a; head = b; weight = 1 }
 
 -- 1 to 2 to 3 to 0, and two arcs from 0 back to 1, which are items 7 and 8
-unfoldable pub ring : Graph
+pub ring : Graph
 ring = record { nodes = 4; arcs = step 1 2 ∷ step 2 3 ∷ step 3 0 ∷ step 0 1 ∷ step 0 1 ∷ [] }
 
-unfoldable pub none-closed : ℕ → Bool
+pub none-closed : ℕ → Bool
 none-closed i = false
 
 pub ring-least : least ring none-closed (7 ∷ 8 ∷ []) 1 0 ≡ some 11
