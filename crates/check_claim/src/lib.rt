@@ -28,7 +28,7 @@ fn mark_of(marks: &[u8], item: usize) -> u8
 }
 
 // Whether each of the items has the mark.
-fn all_marked(marks: &[u8], items: &[usize], mark: u8) -> bool
+pub fn all_marked(marks: &[u8], items: &[usize], mark: u8) -> bool
     ensures { λ r. ⌜ r ≡ every (λ x. eqb (getD (now (marks .entry)) x 0) mark) (now (items .entry)) ⌝ }
 {
     let mut i: usize = 0;

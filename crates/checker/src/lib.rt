@@ -91,7 +91,7 @@ pub fn answer_slip(
 }
 
 // The same with a scratch of its own, which is made no sooner than the sheet is known to be good.
-fn answer_taken(header: Header, arcs: &[u32], marks: &[u8], slip: &[u8]) -> CheckAnswer
+pub fn answer_taken(header: Header, arcs: &[u32], marks: &[u8], slip: &[u8]) -> CheckAnswer
     requires { ⌜ Whole header (now arcs) (now marks) ⌝ }
     ensures { λ r. let S = sheetOf header (now (arcs .entry)) (now (marks .entry)) in
         ⌜ r ≡ checkAnswerOf (after (readSlip (now (slip .entry))) (judgedOn S)) ⌝ }

@@ -16,7 +16,7 @@ use Rattle.walks.proofs.FitsLaws.{some-fits}
 use Rattle.walks.proofs.LeastLaw.{IsLeast, is-least}
 use Rattle.walks.specs.Graph.{fits}
 use Rattle.walks.specs.Lengths.{Least, none, some, within}
-use Rattle.sheet.proofs.RefusalLaws.{AmongOr, number-refuses}
+use Rattle.sheet.proofs.RefusalLaws.{AmongThese, number-refuses}
 use Rattle.sheet.specs.Answer.{finished, refused, answerOf}
 use Rattle.sheet.specs.Sheet.{Sheet, isForbidden}
 use Rattle.reason_list.specs.Reasons.{but}
@@ -26,7 +26,7 @@ use Rattle.sheet.specs.Reader.{taken}
 use Rattle.pass_rules.specs.Verdict.{fitsSheet, reasonsFor}
 use Rattle.reason_rules.proofs.AnswerLaws.{reason-finished}
 use Rattle.reason_rules.proofs.Demand3.{pruned-unmet, list-minimal}
-use Rattle.reason_rules.proofs.WithinLaws.{reason-refused}
+use Rattle.reason_rules.proofs.WithinLaws.{reasonRefusals, reason-refused}
 use Rattle.reason_rules.specs.Reason.{reasonIn, reasonOn}
 use Rattle.text_lines.proofs.LineLaws.{difference-high, line-size, number-size, difference-size, lines-size}
 use Rattle.text_lines.specs.Lines.{numberLine, lines}
@@ -82,10 +82,10 @@ cost-refuses input e = (forth (readNumber input), back (readNumber input))
     back r (inr (i, sheet, z, f)) = rw z (for-refuses sheet i e .1 f)
 
 -- so it is one of 3 to 13 or 15 or 16: 1 and 2 do not arise
-pub cost-refusals : (input : List ℕ) (e : ℕ) → costOn input ≡ refused e → AmongOr 15 16 e
+pub cost-refusals : (input : List ℕ) (e : ℕ) → costOn input ≡ refused e → AmongThese reasonRefusals e
 cost-refusals input e z = go (cost-refuses input e .0 z)
   where
-    go : Draws (readNumber input) e → AmongOr 15 16 e
+    go : Draws (readNumber input) e → AmongThese reasonRefusals e
     go (inl n) = inl (number-refuses input e n)
     go (inr (i, sheet, n, f)) = reason-refused sheet i e f
 

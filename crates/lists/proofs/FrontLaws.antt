@@ -1,11 +1,11 @@
 -- Laws of a list that is filled from its front, and of a list of zeros. Assumes nothing.
-use Prim.Native.Nat.{ℕ, zero, suc, _+_, _-_, _≤_, _<_}
+use Prim.Native.Nat.{ℕ, zero, suc, _+_, _-_, _≤_, _<_, min}
 use mathlib.Core.Path.{_≡_, refl, ap, sym, _∙_}
 use mathlib.Core.List.{List, [], _∷_, _++_, append-assoc, append-nil}
-use native.Mathlib.Omega.{arith}
+use native.Mathlib.Omega.{arith, min-cases}
 use native.Mathlib.Numerals.{add-one}
 use lib.ListN.{length, replicate, getD, take, drop, set, drop-of-length-le, length-append, length-take, length-drop, length-set}
-use lib.Seq.{drop-append-add, drop-cons, set-append-seam, append-snoc, take-all, take-at, drop-at, drop-drop}
+use lib.Seq.{drop-append-add, drop-cons, set-append-seam, append-snoc, take-all, take-at, drop-at, drop-drop, drop-length}
 use Rattle.lists.specs.Lists.{front, Put}
 
 -- a number of a list of zeros, or behind it
@@ -16,6 +16,18 @@ zeros-at (suc n) (suc k) = zeros-at n k
 
 pub length-front : (xs d : List ℕ) → length xs ≤ length d → length (front xs d) ≡ length d
 length-front xs d h = simp (length-append, length-drop) (omega arith)
+
+-- a list over the front of one as long is that list
+pub front-whole : (xs d : List ℕ) → length d ≤ length xs → front xs d ≡ xs
+front-whole xs d h = ap (λ (ys : List ℕ). xs ++ ys) (drop-of-length-le d h) ∙ append-nil xs
+
+-- taking or dropping no more than there is takes or drops the same
+pub take-least : {A : Type 0} (n : ℕ) (xs : List A) → take (min n (length xs)) xs ≡ take n xs
+take-least n xs =
+    min-cases n (length xs) (take (min n (length xs)) xs ≡ take n xs) (λ h e. rw e) (λ h e. rw e (take-all (length xs) xs (omega arith) ∙ sym (take-all n xs h)))
+
+pub drop-least : {A : Type 0} (n : ℕ) (xs : List A) → drop (min n (length xs)) xs ≡ drop n xs
+drop-least n xs = min-cases n (length xs) (drop (min n (length xs)) xs ≡ drop n xs) (λ h e. rw e) (λ h e. rw e (drop-length xs ∙ sym (drop-of-length-le xs h)))
 
 -- what stays behind a place stays behind a later one
 pub drop-further : (m n : ℕ) (u v : List ℕ) → m ≤ n → drop m u ≡ drop m v → drop n u ≡ drop n v

@@ -5,3 +5,5 @@ pub mod AscendLaws
 pub mod FrontLaws
 pub mod RowLaws
 pub mod TestedLaws
+pub mod EntryLaws
+pub mod MovedLaws

@@ -13,15 +13,15 @@ use Rattle.lists.proofs.TestLaws.{or-false}
 use Rattle.lists.specs.Lists.{member, keep, add, without, Distinct}
 
 -- ys is xs, or has fewer entries
-abbrev pub Shrunk : List ℕ → List ℕ → Type 0
+abbrev pub Shrunk : {A : Type 0} → List A → List A → Type 0
 Shrunk xs ys = (length ys ≤ length xs) × (length ys ≡ length xs → ys ≡ xs)
 
-add-shrunk : (b : Bool) (x : ℕ) {xs ys : List ℕ} → Shrunk xs ys → Shrunk (x ∷ xs) (add b x ys)
+add-shrunk : {A : Type 0} (b : Bool) (x : A) {xs ys : List A} → Shrunk xs ys → Shrunk (x ∷ xs) (add b x ys)
 unfolding add
 add-shrunk true x s = (omega arith, λ e. ap (x ∷_) (s .1 (omega arith)))
 add-shrunk false x s = (omega arith, λ e. absurd (omega arith))
 
-pub keep-shrunk : (f : ℕ → Bool) (xs : List ℕ) → Shrunk xs (keep f xs)
+pub keep-shrunk : {A : Type 0} (f : A → Bool) (xs : List A) → Shrunk xs (keep f xs)
 unfolding keep
 keep-shrunk f [] = (omega arith, λ e. refl)
 keep-shrunk f (x ∷ xs) = add-shrunk (f x) x (keep-shrunk f xs)

@@ -21,17 +21,38 @@ every f [] = true
 every f (x ∷ xs) = f x && every f xs
 
 -- the entries that pass the test
-unfoldable pub add : Bool → ℕ → List ℕ → List ℕ
+unfoldable pub add : {A : Type 0} → Bool → A → List A → List A
 add true x xs = x ∷ xs
 add false x xs = xs
 
-unfoldable pub keep : (ℕ → Bool) → List ℕ → List ℕ
+unfoldable pub keep : {A : Type 0} → (A → Bool) → List A → List A
 keep f [] = []
 keep f (x ∷ xs) = add (f x) x (keep f xs)
 
 -- the entries other than x
 unfoldable pub without : ℕ → List ℕ → List ℕ
 without x xs = keep (λ g. not (eqb g x)) xs
+
+-- each entry of the one list is one of the other
+unfoldable pub subset : List ℕ → List ℕ → Bool
+subset xs ys = every (λ x. member x ys) xs
+
+-- the lists have the same entries in the same order
+unfoldable pub alike : List ℕ → List ℕ → Bool
+alike [] [] = true
+alike [] (y ∷ ys) = false
+alike (x ∷ xs) [] = false
+alike (x ∷ xs) (y ∷ ys) = eqb x y && alike xs ys
+
+-- some entry passes the test
+unfoldable pub any : {A : Type 0} → (A → Bool) → List A → Bool
+any f [] = false
+any f (x ∷ xs) = f x || any f xs
+
+-- x is an entry of the list, whatever its entries are
+pub data Entry {A : Type 0} (x : A) : List A → Type 0 where
+  here : {xs : List A} → Entry x (x ∷ xs)
+  there : {y : A} {xs : List A} → Entry x xs → Entry x (y ∷ xs)
 
 -- a, a + 1, .. : k numbers
 unfoldable pub span : ℕ → ℕ → List ℕ

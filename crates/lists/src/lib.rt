@@ -1,7 +1,7 @@
 // Tests over lists of numbers, and the definitions and laws on lists that every crate shares.
 ghost use mathlib.Core.Path.{_≡_};
 ghost use lib.Dec.{ltb};
-ghost use Rattle.lists.specs.Lists.{member, every, ascends};
+ghost use Rattle.lists.specs.Lists.{member, every, ascends, alike};
 
 // Whether each entry is below the bound.
 pub fn all_below(list: &[usize], bound: usize) -> bool
@@ -52,6 +52,23 @@ pub fn all_listed(entries: &[usize], list: &[usize]) -> bool
     let mut i: usize = 0;
     while i < entries.len() {
         if !is_listed(entries[i], list) {
+            return false;
+        }
+        i += 1;
+    }
+    true
+}
+
+// Whether the lists have the same numbers in the same order.
+pub fn same_numbers(a: &[u32], b: &[u32]) -> bool
+    ensures { λ r. ⌜ r ≡ alike (now (a .entry)) (now (b .entry)) ⌝ }
+{
+    if a.len() != b.len() {
+        return false;
+    }
+    let mut i: usize = 0;
+    while i < a.len() {
+        if a[i] != b[i] {
             return false;
         }
         i += 1;

@@ -64,6 +64,30 @@ pub fn numbers_at(bytes: &[u8], from: usize, count: usize, out: &mut [usize])
     }
 }
 
+// The same for values that are no indices.
+pub fn values_at(bytes: &[u8], from: usize, count: usize, out: &mut [u32])
+    requires { ⌜ count ≤ length (now out) ⌝ }
+    ensures { λ _. ⌜ now (out .exit) ≡ front (begun readNumber count (drop from (now (bytes .entry)))) (now (out .entry)) ⌝ }
+{
+    let mut at = from;
+    let mut j: usize = 0;
+    while j < count {
+        match varint::number_at(bytes, at) {
+            Number::Got(x, next) => {
+                out[j] = x;
+                at = next;
+            }
+            Number::Ends => {
+                return;
+            }
+            Number::Overlong => {
+                return;
+            }
+        }
+        j += 1;
+    }
+}
+
 // Writes the numbers in a row over the front of `out` and gives the count of bytes.
 pub fn put_numbers(out: &mut [u8], numbers: &[u32]) -> usize
     requires { ⌜ (small (now numbers) ≡ true) × (length (writeNumbers (now numbers)) ≤ length (now out)) ⌝ }

@@ -41,7 +41,7 @@ arc-eq x y p q r =
     ∙ ap {B = Arc} (λ (h : ℕ). record { tail = y .tail; head = h; weight = x .weight }) q
     ∙ ap {B = Arc} (λ (w : ℕ). record { tail = y .tail; head = y .head; weight = w }) r
 
-map-eq : (G H : Graph) → SameMap G H → H ≡ G
+pub map-eq : (G H : Graph) → SameMap G H → H ≡ G
 unfolding tailOf headOf weightOf
 map-eq G H e =
     let a : H .arcs ≡ G .arcs =

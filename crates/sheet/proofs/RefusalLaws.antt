@@ -2,12 +2,15 @@
 use Prim.Native.Nat.{ℕ, zero, suc, _+_, _≤_}
 use mathlib.Core.Path.{_≡_}
 use mathlib.Core.Logic.{_⊎_, inl, inr}
-use mathlib.Core.Bool.{Bool, _&&_}
+use mathlib.Core.Bool.{Bool, true, _&&_}
 use mathlib.Core.List.{List, [], _∷_}
 use native.Mathlib.Omega.{arith}
 use lib.ListN.{length}
 use lib.Dec.{eqb, leb, ltb}
-use Rattle.lists.proofs.TestLaws.{pick-either}
+use borrow.Author.Tests.{leb-true}
+use Rattle.lists.proofs.MemberLaws.{every-at}
+use Rattle.lists.proofs.TestLaws.{and-true, pick-either}
+use Rattle.lists.specs.Lists.{member, every}
 use Rattle.varint.specs.Varint.{Read, got, refuse, after, lastGroup, above, readGroups, readNumber, judged, number, several}
 use Rattle.sheet.specs.declared.Header.{Header}
 use Rattle.sheet.specs.Reader.{isNodeCount, isArcCount, isNode, isOther, isLimit, isMinutes, isMark, headerLimit, headerTarget, headerSource, headerArcs, readHeader, arcMinutes, arcHead, readArc, readMark, readMarks, readArcs, readSheet, complete, taken}
@@ -17,14 +20,15 @@ use Rattle.sheet.specs.Sheet.{Sheet, required}
 abbrev pub Among : ℕ → Type 0
 Among w = (3 ≤ w) × (w ≤ 13)
 
--- or one of two that an operation has of its own
-abbrev pub AmongOr : ℕ → ℕ → ℕ → Type 0
-AmongOr a b w = Among w ⊎ ((w ≡ a) ⊎ (w ≡ b))
+-- or one of those that an operation has of its own
+abbrev pub AmongThese : List ℕ → ℕ → Type 0
+AmongThese own w = Among w ⊎ (member w own ≡ true)
 
-pub among-or-fits : {a b w : ℕ} → 13 ≤ a → a ≤ b → AmongOr a b w → (1 ≤ w) × (w ≤ b)
-among-or-fits h g (inl p) = (omega (arith, p .0), omega (arith, p .1))
-among-or-fits h g (inr (inl e)) = (omega (arith, e), omega (arith, e))
-among-or-fits h g (inr (inr e)) = (omega (arith, e), omega (arith, e))
+-- none of them is 0, and all are at most b
+pub these-fit : (own : List ℕ) (b : ℕ) → every (λ w. leb 1 w && leb w b) own ≡ true → 13 ≤ b → {w : ℕ} → AmongThese own w → (1 ≤ w) × (w ≤ b)
+these-fit own b h l (inl p) = (omega (arith, p .0), omega (arith, p .1))
+these-fit own b h l {w} (inr m) =
+    let s = and-true (leb 1 w) (leb w b) (every-at (λ w. leb 1 w && leb w b) own w h m) in (leb-true 1 w (s .0), leb-true w b (s .1))
 
 -- what is refused, if anything, has the property
 abbrev pub Refusing : {A : Type 0} → (ℕ → Type 0) → Read A → Type 0
@@ -114,8 +118,8 @@ taken-refusing : (bs : List ℕ) → Refusing Among (taken bs)
 unfolding taken
 taken-refusing bs = after-refusing Among (readSheet bs) complete (sheet-refusing bs) complete-refusing
 
-pub taken-refusing-or : (a b : ℕ) (bs : List ℕ) → Refusing (AmongOr a b) (taken bs)
-taken-refusing-or a b bs = refusing-more Among (AmongOr a b) (taken bs) (λ w p. inl p) (taken-refusing bs)
+pub taken-refusing-these : (own bs : List ℕ) → Refusing (AmongThese own) (taken bs)
+taken-refusing-these own bs = refusing-more Among (AmongThese own) (taken bs) (λ w p. inl p) (taken-refusing bs)
 
 pub taken-refuses : (bs : List ℕ) (w : ℕ) → taken bs ≡ refuse w → Among w
 taken-refuses bs w e = refusing-is Among (taken bs) w (taken-refusing bs) e

@@ -209,7 +209,7 @@ module _ {f : ℕ → Bool} {n : ℕ} {old out : List ℕ} {count p : ℕ} (w : 
 pub found-more : (xs : List ℕ) (i : ℕ) (t : Bool) → member 1 xs ≡ (t || member 1 (drop i xs)) → i < length xs
     → member 1 xs ≡ ((t || eqb (getD xs i 0) 1) || member 1 (drop (i + 1) xs))
 unfolding member
-found-more xs i t e h = e ∙ ap (λ (ys : List ℕ). t || member 1 ys) (entry-at xs i h) ∙ rw (eqb-sym 1 (getD xs i 0)) (or-assoc t (eqb (getD xs i 0) 1) (member 1 (drop (i + 1) xs)))
+found-more xs i t e h = e ∙ ap (λ (ys : List ℕ). t || member 1 ys) (entry-at 0 xs i h) ∙ rw (eqb-sym 1 (getD xs i 0)) (or-assoc t (eqb (getD xs i 0) 1) (member 1 (drop (i + 1) xs)))
 
 pub found-all : (xs : List ℕ) (i : ℕ) (t : Bool) → member 1 xs ≡ (t || member 1 (drop i xs)) → length xs ≤ i → t ≡ member 1 xs
 unfolding member

@@ -125,9 +125,9 @@ three-at : (xs : List ℕ) (i : ℕ) → i + 2 < length xs → drop i xs ≡ get
 three-at xs i h =
     let p : i + 1 + 1 ≡ i + 2 = omega arith in
     let q : i + 2 + 1 ≡ i + 3 = omega arith in
-    entry-at xs i (omega arith)
-    ∙ ap (λ (ys : List ℕ). getD xs i 0 ∷ ys) (entry-at xs (i + 1) (omega arith) ∙ ap (λ (k : ℕ). getD xs (i + 1) 0 ∷ drop k xs) p)
-    ∙ ap (λ (ys : List ℕ). getD xs i 0 ∷ getD xs (i + 1) 0 ∷ ys) (entry-at xs (i + 2) h ∙ ap (λ (k : ℕ). getD xs (i + 2) 0 ∷ drop k xs) q)
+    entry-at 0 xs i (omega arith)
+    ∙ ap (λ (ys : List ℕ). getD xs i 0 ∷ ys) (entry-at 0 xs (i + 1) (omega arith) ∙ ap (λ (k : ℕ). getD xs (i + 1) 0 ∷ drop k xs) p)
+    ∙ ap (λ (ys : List ℕ). getD xs i 0 ∷ getD xs (i + 1) 0 ∷ ys) (entry-at 0 xs (i + 2) h ∙ ap (λ (k : ℕ). getD xs (i + 2) 0 ∷ drop k xs) q)
 
 fewer-than-three : (n : ℕ) (xs : List ℕ) → length xs ≤ 2 → arcsFault n xs ≡ 0
 unfolding arcsFault
@@ -161,7 +161,7 @@ module _ (xs : List ℕ) (i : ℕ) (e : marksFault xs ≡ marksFault (drop i xs)
   module _ (h : i < length xs) where
     next-mark : marksFault xs ≡ firstOf (fault 11 (leb (getD xs i 0) 2)) (marksFault (drop (i + 1) xs))
     unfolding marksFault
-    next-mark = e ∙ ap marksFault (entry-at xs i h)
+    next-mark = e ∙ ap marksFault (entry-at 0 xs i h)
 
     pub marks-stop : 2 < getD xs i 0 → 11 ≡ marksFault xs
     marks-stop l = stop 10 _ (lt-leb (getD xs i 0) 2 l) ∙ sym next-mark

@@ -9,7 +9,7 @@ use Rattle.lists.specs.Lists.{front}
 use Rattle.lists.proofs.FrontLaws.{length-front, push-at}
 use Rattle.sheet.specs.Lent.{zeros, zeroed}
 
-length-zeros : (k : ℕ) → length (zeros k) ≡ k
+pub length-zeros : (k : ℕ) → length (zeros k) ≡ k
 unfolding zeros
 length-zeros k = length-replicate k 0
 

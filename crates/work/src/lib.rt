@@ -1,7 +1,7 @@
 // The work that an operation is lent, as numbers or as bytes, what a call leaves in it, and what it answers (document 01, 'The operations and what they
 // refuse').
 ghost use mathlib.Core.Path.{_≡_};
-ghost use Prim.Native.Nat.{_≤_};
+ghost use Prim.Native.Nat.{_+_, _*_, _≤_};
 ghost use lib.ListN.{length};
 ghost use Rattle.sheet.specs.Lent.{workNumbers, zeroed};
 ghost use Rattle.work.specs.Bytes.{workBytes, zeroedBytes};
@@ -74,4 +74,20 @@ pub fn leave_bytes(work: &mut [u8], number: u32)
     if is_zeroed(number) {
         zero_bytes(work);
     }
+}
+
+// What a refusal number counts in the one number of a call.
+const REFUSAL: u32 = 65536;
+
+// The one numbers of a call that is lent too little work, and of one that is lent too short a slip.
+pub const SHORT_WORK: u32 = REFUSAL;
+
+pub const SHORT_SLIP: u32 = 2 * REFUSAL;
+
+// The one number of a call: the refusal, and the length of what was written or 1 for yes.
+pub fn one_number(number: u32, length: usize) -> u32
+    requires { ⌜ (number ≤ 27) × (length ≤ 65535) ⌝ }
+    ensures { λ r. ⌜ r ≡ 65536 * number + length ⌝ }
+{
+    REFUSAL * number + length as u32
 }

@@ -1,0 +1,100 @@
+-- `store::put_sheet` meets its contract: a refused sheet, or what the slip draws on the sheet that was read, or what the newcomer leads to. Assumes nothing.
+use Prim.Native.Nat.{_+_, _*_}
+use mathlib.Core.Path.{sym, _∙_}
+use native.Mathlib.Omega.{arith}
+use lib.ListN.{take}
+use borrow.Author.Needs.{needs}
+use Rattle.sheet_reader.specs.Loaded.{Loaded}
+use Rattle.store.proofs.PuttingLaws.{refuses, bad-sheet, good-sheet, as-drawn}
+use Rattle.store.proofs.put_sheet.Statement.{statement}
+use Rattle.store.proofs.put_sheet.Tie as tie
+
+slice-aggregate-read : tie.Need-slice-aggregate-read
+slice-aggregate-read c = search needs
+
+slice-aggregate-read-2 : tie.Need-slice-aggregate-read-2
+slice-aggregate-read-2 c = search needs
+
+read-requires : tie.Need-read-requires
+read-requires c κs = search needs
+
+enum-known-header : tie.Need-enum-known-header
+enum-known-header c = search needs
+
+enum-known-why : tie.Need-enum-known-why
+enum-known-why c = search needs
+
+unchanged-requires : tie.Need-unchanged-requires
+unchanged-requires c κs = search needs
+
+returns : tie.Need-returns
+returns c = let s = c .before .before .before .before .before .before .before .before .before .before .before in refuses (c .unchanged .ensures) _ (bad-sheet (s .args .store) (s .args .sheet .now) (s .args .slip .now) _ (c .before .before .before .before .before .before .read .ensures .1 .1 .1 .refused _ (c .before .before .why .given .1)))
+
+-- the sheet that was read
+loaded : (p : tie.After-header) → let q = p .before .before .before .before .read in
+    Loaded (p .before .before .before .before .before .before .before .before .before .args .sheet .now) (p .header .given .0 .0) (take (3 * p .header .given .0 .0 .arcs) (q .last .1 .0)) (take (p .header .given .0 .0 .nodes + p .header .given .0 .0 .arcs) (q .last .1 .1 .0))
+loaded p = p .before .before .before .before .read .ensures .1 .1 .1 .took _ (p .header .given .1)
+
+mul-numbers : tie.Need-mul-numbers
+mul-numbers c = omega (arith, loaded (c .before .before) .whole .few)
+
+add-items : tie.Need-add-items
+add-items c = let W = loaded (c .before .before .before) .whole in omega (arith, W .few, W .proper .few)
+
+array-share-prefix-arcs : tie.Need-array-share-prefix-arcs
+array-share-prefix-arcs c = omega (arith, loaded (c .before .before .before) .whole .few, c .before .before .before .before .before .before .before .read .kept .1 .0)
+
+slice-aggregate-judge : tie.Need-slice-aggregate-judge
+slice-aggregate-judge c = sym (loaded (c .before .before .before .before) .whole .sized .0)
+
+array-share-prefix-marks : tie.Need-array-share-prefix-marks
+array-share-prefix-marks c = let W = loaded (c .before .before .before .before) .whole in omega (arith, W .few, W .proper .few, c .before .before .before .before .before .before .before .before .read .kept .1 .1 .0)
+
+slice-aggregate-judge-2 : tie.Need-slice-aggregate-judge-2
+slice-aggregate-judge-2 c = sym (loaded (c .before .before .before .before .before) .whole .sized .1)
+
+judge-requires : tie.Need-judge-requires
+judge-requires c κs = loaded (c .before .before .before .before .before) .whole
+
+unchanged-requires-2 : tie.Need-unchanged-requires-2
+unchanged-requires-2 c κs = search needs
+
+returns-2 : tie.Need-returns-2
+returns-2 c = let s = c .before .before .before .before .before .before .before .before .before .before .before .before .before .before .before .before .before in let q = loaded (c .before .before .before .before .before .before .before .before) in refuses (c .unchanged2 .ensures) _ (good-sheet (s .args .store) (s .args .sheet .now) (s .args .slip .now) _ (q .makes) ∙ c .before .before .judge .ensures .refused (c .before .if1 .taken) _)
+
+array-share-prefix-arcs-2 : tie.Need-array-share-prefix-arcs-2
+array-share-prefix-arcs-2 c = omega (arith, loaded (c .before .before .before .before .before .before .before .before) .whole .few, c .before .before .before .before .before .before .before .before .before .before .before .before .read .kept .1 .0)
+
+slice-aggregate-enter : tie.Need-slice-aggregate-enter
+slice-aggregate-enter c = sym (loaded (c .before .before .before .before .before .before .before .before .before) .whole .sized .0)
+
+enter-requires : tie.Need-enter-requires
+enter-requires c κs = let W = loaded (c .before .before .before .before .before .before .before .before .before) .whole in (W .sized .0, omega (arith, W .proper .few), W .few, omega (arith, W .source, W .proper .few), omega (arith, W .target, W .proper .few))
+
+returns-3 : tie.Need-returns-3
+returns-3 c = let s = c .before .before .before .before .before .before .before .before .before .before .before .before .before .before .before .before .before .before .before in let q = loaded (c .before .before .before .before .before .before .before .before .before .before) in as-drawn (good-sheet (s .args .store) (s .args .sheet .now) (s .args .slip .now) _ (q .makes) ∙ c .before .before .before .before .judge .ensures .goes (c .before .before .before .if1 .left) _) (c .enter .ensures _)
+
+pub put-sheet-spec : {M : Type 1} → statement M
+put-sheet-spec =
+    tie.close
+    (tie.spec
+    slice-aggregate-read
+    slice-aggregate-read-2
+    read-requires
+    enum-known-header
+    enum-known-why
+    unchanged-requires
+    returns
+    mul-numbers
+    add-items
+    array-share-prefix-arcs
+    slice-aggregate-judge
+    array-share-prefix-marks
+    slice-aggregate-judge-2
+    judge-requires
+    unchanged-requires-2
+    returns-2
+    array-share-prefix-arcs-2
+    slice-aggregate-enter
+    enter-requires
+    returns-3)

@@ -1,0 +1,3 @@
+pub mod ShelfLaws
+pub mod PutLaws
+pub mod ReachedLaws
