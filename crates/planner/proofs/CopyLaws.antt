@@ -5,7 +5,7 @@ use mathlib.Core.Path.{_≡_, refl, sym, ap, _∙_}
 use mathlib.Core.Bool.{Bool, true, false}
 use mathlib.Core.List.{List, [], _∷_, _++_, append-nil}
 use native.Mathlib.Omega.{arith}
-use lib.ListN.{length, take, drop, drop-of-length-le, length-replicate, take-append-drop}
+use lib.ListN.{length, take, drop, drop-of-length-le, take-append-drop}
 use lib.Seq.{length-take-le}
 use lib.Dec.{leb, ltb}
 use borrow.Author.Tests.{le-ltb}
@@ -20,6 +20,7 @@ use Rattle.pass_rules.specs.Pass.{passOn, passed}
 use Rattle.check_rules.specs.Check as check
 use Rattle.check_rules.specs.Check.{checkOn, checked}
 use Rattle.planner.specs.Copied.{numbersOf, workBytesOf, copiedOut, checkCopiedOut}
+use Rattle.work.proofs.ZeroLaws.{length-zeros}
 use Rattle.work.specs.Bytes.{zeroedBytes, bytesAfter}
 use Rattle.planner.specs.Layer.{bytesOutcome, bytesEnough, passedBytes, reasonedBytes}
 use Rattle.planner.specs.Check.{checkBytesOutcome, checkedBytes}
@@ -63,10 +64,6 @@ bytes-zeros zero = refl
 bytes-zeros (suc k) =
     let n : 4 * suc k ≡ suc (suc (suc (suc (4 * k)))) = omega arith in
     ap (λ (xs : List ℕ). 0 ∷ 0 ∷ 0 ∷ 0 ∷ xs) (bytes-zeros k) ∙ ap zeros (sym n)
-
-length-zeros : (k : ℕ) → length (zeros k) ≡ k
-unfolding zeros
-length-zeros k = length-replicate {A = ℕ} k 0
 
 front-zeros : (k : ℕ) (work : List ℕ) → front (workBytesOf (zeros k)) work ≡ zeros (4 * k) ++ drop (4 * k) work
 front-zeros k work = rw (bytes-zeros k, length-zeros (4 * k))

@@ -4,3 +4,5 @@ pub mod WriteLaws
 pub mod NumberLaws
 pub mod CopyLaws
 pub mod Calls
+pub mod OneCall
+pub mod StoreCell

@@ -10,7 +10,7 @@ use lib.ListN.{length}
 use lib.Dec.{ltb}
 use Rattle.lists.proofs.TestLaws.{pick-either}
 use Rattle.varint.specs.Varint.{Read, got, refuse}
-use Rattle.sheet.proofs.RefusalLaws.{taken-refuses}
+use Rattle.sheet.proofs.RefusalLaws.{AmongThese, Refusing, taken-refuses}
 use Rattle.sheet.proofs.SizeLaws.{written-size}
 use Rattle.sheet.specs.Answer.{Answer, finished, refused}
 use Rattle.sheet.specs.Draft.{Draft}
@@ -21,6 +21,12 @@ use Rattle.reason_rules.proofs.WithinLaws.{ReasonNumber, reason-refused, reason
 use Rattle.reason_rules.specs.Reason.{reasonOn}
 use Rattle.check_rules.proofs.WithinLaws.{Drawn, CheckNumber, check-drawn}
 use Rattle.check_rules.specs.Check.{checkOn}
+use Rattle.sheet.specs.Slip.{slipBytes}
+use Rattle.store_rules.proofs.PutLaws.{putRefusals, askRefusals, PutNumber, AskNumber, put-drawn, ask-drawn}
+use Rattle.store_rules.specs.Shelf.{Nogood, Shelf, slipOf, Found, missing, found}
+use Rattle.store_rules.specs.Store.{putOn, askOn, Reached}
+use Rattle.store_bytes.proofs.BytesLaws.{asked-size}
+use Rattle.store_bytes.specs.Bytes.{putBytesOutcome, putBytes, askBytesOutcome, askBytes}
 use Rattle.work.specs.Bytes.{workBytes}
 use Rattle.planner.specs.Layer.{bytesOutcome, bytesEnough, passedBytes, reasonedBytes}
 use Rattle.planner.specs.Check.{checkBytesOutcome, checkedBytes}
@@ -73,3 +79,30 @@ unfolding writtenNumber oneNumber
 write-one-number d out =
     let s = written-size d out in
     held (λ e. (e ≤ 13) ⊎ (e ≡ 19)) (sheetWritten d out .number) _ (omega arith) (omega (arith, s .1)) (s .0)
+
+pub put-one-number : (K : Shelf) (sheet work slip : List ℕ) → PutNumber (putBytes K sheet work slip .number / 65536)
+unfolding putBytes putBytesOutcome
+put-one-number K sheet work slip =
+    pick-either (λ (r : Read Shelf). PutNumber (putBytesOutcome K r work .number / 65536)) (ltb (length work) workBytes) (refuse 1) (putOn K sheet slip)
+    (refused-holds PutNumber 1 (inl (omega arith))) (go (putOn K sheet slip) (put-drawn K sheet slip))
+  where
+    go : (r : Read Shelf) → Refusing (AmongThese putRefusals) r → PutNumber (putBytesOutcome K r work .number / 65536)
+    go (got L rest) d = held PutNumber 0 0 (omega arith) (omega arith) (inl (omega arith))
+    go (refuse e) d = refused-holds PutNumber e (inr d)
+
+-- ask's own, and 2 of a slip that is too short
+abbrev pub AskOneNumber : ℕ → Type 0
+AskOneNumber e = (e ≡ 2) ⊎ AskNumber e
+
+-- of a shelf that is reached
+pub ask-one-number : (K : Shelf) → Reached K → (sheet slip : List ℕ) → AskOneNumber (askBytes K sheet slip .number / 65536)
+unfolding askBytes askBytesOutcome
+ask-one-number K r sheet slip =
+    pick-either (λ (r : Read Found). AskOneNumber (askBytesOutcome r slip .number / 65536)) (ltb (length slip) 1200) (refuse 2) (askOn K sheet)
+    (refused-holds AskOneNumber 2 (inl refl)) (go (askOn K sheet) (ask-drawn K sheet) (λ k rest e. asked-size K sheet k rest r e .1))
+  where
+    go : (q : Read Found) → Refusing (AmongThese askRefusals) q → ((k : Nogood) (rest : List ℕ) → q ≡ got (found k) rest → length (slipBytes (slipOf k)) ≤ 51)
+        → AskOneNumber (askBytesOutcome q slip .number / 65536)
+    go (got missing rest) d s = held AskOneNumber 0 0 (omega arith) (omega arith) (inr (inl refl))
+    go (got (found k) rest) d s = held AskOneNumber 0 (length (slipBytes (slipOf k))) (omega arith) (omega (arith, s k rest refl)) (inr (inl refl))
+    go (refuse e) d s = refused-holds AskOneNumber e (inr (inr d))
