@@ -1,10 +1,15 @@
 // Runs the lines of document 01, 'The sheet B and what it gives', through pass, reason and check, and prints what each gives. The work and the slip
-// are lent longer than asked for and filled before the call, so that what is left as found can be seen. Then views of arcs, sheets that are written, and
-// numbers with and without bytes behind them.
+// are lent longer than asked for and filled before the call, so that what is left as found can be seen. Then views of arcs, sheets that are written,
+// numbers with and without bytes behind them, and the store of request 2.6: slips that are put on it, and sheets that it is asked for.
 ghost use Prim.Native.Nat.{_≤_};
 use libc::STDOUT_FILENO;
 use sheet::Header;
 use sheet_reader::SheetRead;
+use store::Putting;
+use store::SLOTS;
+use store::Store;
+use store_slot::SLOT_ITEMS;
+use store_slot::Slot;
 use varint::Number;
 use walks::ARC_NUMBERS;
 use walks::ITEMS;
@@ -62,10 +67,15 @@ fn is_work_all(work: &[u32], from: usize, to: usize, value: u32) -> bool {
     true
 }
 
+// Prints a number in hex behind a space, in two digits where they are enough.
+fn print_hex(number: u64) {
+    io::write_all(STDOUT_FILENO, b" ");
+    io::print_hex(STDOUT_FILENO, number, 2);
+}
+
 // Prints a byte in hex behind a space.
 fn print_byte(byte: u8) {
-    io::write_all(STDOUT_FILENO, b" ");
-    io::print_hex(STDOUT_FILENO, byte as u64, 2);
+    print_hex(byte as u64);
 }
 
 // Prints the first `count` bytes in hex.
@@ -90,10 +100,15 @@ fn show_finished(work: &[u32], slip: &[u8], length: usize) {
     }
 }
 
-// Prints what a refused call left.
-fn show_refused(work: &[u32], slip: &[u8], number: u32) {
+// Prints that a call was refused, and why.
+fn show_refusal(number: u32) {
     io::write_all(STDOUT_FILENO, b" refused ");
     io::print_decimal(STDOUT_FILENO, number as u64);
+}
+
+// Prints what a refused call left.
+fn show_refused(work: &[u32], slip: &[u8], number: u32) {
+    show_refusal(number);
     if is_kept(slip, 0) && is_work_all(work, 0, WORK_LENT, FILLED_NUMBER) {
         io::write_all(STDOUT_FILENO, b"; all untouched");
     }
@@ -460,8 +475,7 @@ fn show_written(sheet: &[u8], answer: Answer) {
             io::write_all(STDOUT_FILENO, b"; rest untouched");
         }
     } else {
-        io::write_all(STDOUT_FILENO, b" refused ");
-        io::print_decimal(STDOUT_FILENO, answer.number as u64);
+        show_refusal(answer.number);
         if is_kept(sheet, 0) {
             io::write_all(STDOUT_FILENO, b"; all untouched");
         }
@@ -504,13 +518,18 @@ fn header_of_b(limit: u32) -> Header {
     }
 }
 
+// The legs of B.
+fn legs_of_b() -> [u32; 15] {
+    [0u32, 1, 4, 1, 3, 4, 0, 2, 3, 2, 3, 9, 1, 2, 1]
+}
+
 // Sheets made of numbers, in slices that are just long enough.
 fn written_sheets() {
     show_again(
         b"B, read and written again",
         b"\x04\x05\x00\x03\x08\x00\x01\x04\x01\x03\x04\x00\x02\x03\x02\x03\x09\x01\x02\x01\x00\x00\x00\x00\x00\x00\x00\x00\x00",
     );
-    let legs = [0u32, 1, 4, 1, 3, 4, 0, 2, 3, 2, 3, 9, 1, 2, 1];
+    let legs = legs_of_b();
     let marks = [0u8; 9];
     show_write(b"B written, slice of 29", header_of_b(8), &legs, &marks, 29);
     show_write(
@@ -532,7 +551,7 @@ fn written_sheets() {
 
 // Slices that are too short, and lists of another length than the header says.
 fn unwritten_sheets() {
-    let legs = [0u32, 1, 4, 1, 3, 4, 0, 2, 3, 2, 3, 9, 1, 2, 1];
+    let legs = legs_of_b();
     let marks = [0u8; 9];
     show_write(b"B written, slice of 28", header_of_b(8), &legs, &marks, 28);
     show_write(
@@ -696,6 +715,245 @@ fn unended_numbers() {
     show_number(b"\x80\x80\x80\xFF\x00\x7F");
 }
 
+// Whether two slots agree in every number, those past their lists included.
+fn is_same_slot(one: Slot, other: Slot) -> bool {
+    let a = one.items;
+    let b = other.items;
+    if !lists::same_numbers(&a, &b) {
+        return false;
+    }
+    if one.first != other.first || one.limit != other.limit {
+        return false;
+    }
+    one.goals == other.goals && one.reasons == other.reasons
+}
+
+// Whether two stores agree in all their slots, those past the count included.
+fn are_same_slots(one: Store, other: Store) -> bool {
+    let mut i: usize = 0;
+    while i < SLOTS {
+        let a = one.slots[i];
+        let b = other.slots[i];
+        if !is_same_slot(a, b) {
+            return false;
+        }
+        i += 1;
+    }
+    true
+}
+
+// Whether two stores agree in every number.
+fn is_same_store(one: Store, other: Store) -> bool {
+    let a = one.legs;
+    let b = other.legs;
+    if !lists::same_numbers(&a, &b) {
+        return false;
+    }
+    if one.nodes != other.nodes || one.arcs != other.arcs || one.source != other.source {
+        return false;
+    }
+    if one.target != other.target || one.count != other.count {
+        return false;
+    }
+    are_same_slots(one, other)
+}
+
+// Prints the items from `from` up to `to`.
+fn print_items(items: [usize; SLOT_ITEMS], from: usize, to: usize) {
+    let mut i = from;
+    while i < to {
+        if i < SLOT_ITEMS {
+            print_hex(items[i] as u64);
+        }
+        i += 1;
+    }
+}
+
+// Prints the slip that a slot holds, its numbers in a slip's order, and the limit.
+fn show_slot(slot: Slot) {
+    let all = store_slot::lists_of(slot);
+    let goals = all.goals_end;
+    let end = all.reasons_end;
+    let items = all.items;
+    print_hex(slot.first as u64);
+    print_hex(slot.goals as u64);
+    print_items(items, 0, goals);
+    print_hex(slot.reasons as u64);
+    print_items(items, goals, end);
+    io::write_all(STDOUT_FILENO, b" with K ");
+    io::print_decimal(STDOUT_FILENO, slot.limit as u64);
+}
+
+// Prints the slips that a store holds, earliest put first.
+fn show_held(store: Store) {
+    io::write_all(STDOUT_FILENO, b"; holds");
+    if store.count == 0 {
+        io::write_all(STDOUT_FILENO, b" nothing");
+    }
+    let count = store_slot::at_most(store.count, SLOTS);
+    let mut i: usize = 0;
+    while i < count {
+        if i > 0 {
+            io::write_all(STDOUT_FILENO, b", then");
+        }
+        let slot = store.slots[i];
+        show_slot(slot);
+        i += 1;
+    }
+}
+
+// Prints a line's start: the lines that follow one another on the same slips are set in.
+fn show_start(store: Store) {
+    if store.count == 0 {
+        io::write_all(STDOUT_FILENO, b"Empty store, ");
+    } else {
+        io::write_all(STDOUT_FILENO, b"  ");
+    }
+}
+
+// Prints what put gives, what the store then holds, and whether it is in every number as it was before.
+fn show_putting(before: Store, answer: Putting) {
+    let after = answer.store;
+    if answer.number == 0 {
+        io::write_all(STDOUT_FILENO, b" 0");
+    } else {
+        show_refusal(answer.number);
+    }
+    show_held(after);
+    if is_same_store(before, after) {
+        io::write_all(STDOUT_FILENO, b"; store unchanged");
+    }
+}
+
+// Prints a line: the sheet's name, the slip, and what put gives and leaves. Returns the store for the next call.
+fn show_put(store: Store, name: &[u8], sheet: &[u8], slip: &[u8]) -> Store {
+    show_start(store);
+    io::write_all(STDOUT_FILENO, b"put ");
+    io::write_all(STDOUT_FILENO, name);
+    io::write_all(STDOUT_FILENO, b",");
+    print_bytes(slip, slip.len());
+    io::write_all(STDOUT_FILENO, b":");
+    let mut work = [FILLED_NUMBER; WORK_LENT];
+    let answer = store::put(store, sheet, &mut work, slip);
+    show_putting(store, answer);
+    show_work_left(&work);
+    answer.store
+}
+
+// Prints a line: the sheet's name, and the slip that ask finds.
+fn show_ask(store: Store, name: &[u8], sheet: &[u8]) {
+    show_start(store);
+    io::write_all(STDOUT_FILENO, b"ask ");
+    io::write_all(STDOUT_FILENO, name);
+    io::write_all(STDOUT_FILENO, b":");
+    let answer = store::ask(store, sheet);
+    if answer.number != 0 {
+        show_refusal(answer.number);
+    } else if answer.found {
+        let slot = answer.slot;
+        show_slot(slot);
+    } else {
+        io::write_all(STDOUT_FILENO, b" none");
+    }
+    io::write_all(STDOUT_FILENO, b"\n");
+}
+
+// Sheet B with another limit and other marks.
+fn sheet_of_b(limit: u32, marks: &[u8; 9]) -> [u8; 29] {
+    let legs = legs_of_b();
+    let mut sheet = [0u8; 29];
+    sheet_writer::write_sheet(header_of_b(limit), &legs, marks, &mut sheet);
+    sheet
+}
+
+// A sheet on another map: two places and a leg that is must, in no time.
+fn sheet_of_two() -> [u8; 11] {
+    [2u8, 1, 0, 1, 0, 0, 1, 1, 0, 0, 1]
+}
+
+// Puts a slip of the sheet with K 8 and item 1 shut.
+fn put_one_shut(store: Store, slip: &[u8]) -> Store {
+    let sheet = sheet_of_b(8, b"\x00\x02\x00\x00\x00\x00\x00\x00\x00");
+    show_put(store, b"K 8, item 1 shut", &sheet, slip)
+}
+
+// Puts a slip of the sheet with K 8 and items 1 and 5 shut.
+fn put_two_shut(store: Store, slip: &[u8]) -> Store {
+    let sheet = sheet_of_b(8, b"\x00\x02\x00\x00\x00\x02\x00\x00\x00");
+    show_put(store, b"K 8, items 1 and 5 shut", &sheet, slip)
+}
+
+// Puts a slip of the sheet on another map.
+fn put_two(store: Store, slip: &[u8]) -> Store {
+    let sheet = sheet_of_two();
+    show_put(store, b"K 0, two places, item 2 must", &sheet, slip)
+}
+
+// Asks with B, another limit and other marks.
+fn ask_b(store: Store, name: &[u8], limit: u32, marks: &[u8; 9]) {
+    let sheet = sheet_of_b(limit, marks);
+    show_ask(store, name, &sheet);
+}
+
+// A store that holds nothing still reads the sheet that it is asked for.
+fn ask_empty() {
+    let store = store::empty();
+    show_ask(store, b"an empty sheet", b"");
+    ask_b(store, b"B", 8, b"\x00\x00\x00\x00\x00\x00\x00\x00\x00");
+}
+
+// A slip answers for its own sheet, for a lower limit and where more is shut; not where its reason is open or must, nor for a greater limit.
+fn ask_one() {
+    let store = put_one_shut(store::empty(), b"\x01\x00\x01\x01");
+    let shut = b"\x00\x02\x00\x00\x00\x00\x00\x00\x00";
+    let more = b"\x00\x02\x00\x00\x02\x00\x00\x00\x00";
+    let open = b"\x00\x00\x00\x00\x00\x00\x00\x00\x00";
+    let must = b"\x00\x01\x00\x00\x00\x00\x00\x00\x00";
+    ask_b(store, b"K 8, item 1 shut", 8, shut);
+    ask_b(store, b"K 7, item 1 shut", 7, shut);
+    ask_b(store, b"K 8, items 1 and 4 shut", 8, more);
+    ask_b(store, b"B", 8, open);
+    ask_b(store, b"K 9, item 1 shut", 9, shut);
+    ask_b(store, b"K 8, item 1 must", 8, must);
+}
+
+// A slip that the newcomer subsumes goes; a newcomer that a slip subsumes is not put.
+fn put_subsumed() {
+    let wide = put_two_shut(store::empty(), b"\x01\x00\x02\x01\x05");
+    let narrow = put_two_shut(wide, b"\x01\x00\x01\x05");
+    put_two_shut(narrow, b"\x01\x00\x02\x01\x05");
+}
+
+// The slip that was put earliest is found, by the order of puts and not of rooms, although the pass writes the other.
+fn ask_earliest() {
+    let one = put_two_shut(store::empty(), b"\x01\x00\x02\x01\x05");
+    let must = sheet_of_b(14, b"\x00\x01\x01\x00\x00\x00\x00\x00\x02");
+    let name = b"K 14, places 1 and 2 must, item 8 shut";
+    let two = show_put(one, name, &must, b"\x03\x02\x01\x02\x01\x08");
+    let three = put_two_shut(two, b"\x01\x00\x01\x05");
+    let later = sheet_of_b(8, b"\x00\x01\x01\x00\x00\x02\x00\x00\x02");
+    let later_name = b"K 8, places 1 and 2 must, items 5 and 8 shut";
+    show_ask(three, later_name, &later);
+    show_pass(b"  pass of the same sheet", &later);
+}
+
+// Slips that are refused: check says no, a reason for an item, another map.
+fn put_refused() {
+    let first = put_one_shut(store::empty(), b"\x01\x00\x00");
+    let b = sheet_of_b(8, b"\x00\x00\x00\x00\x00\x00\x00\x00\x00");
+    let second = show_put(first, b"B", &b, b"\x04\x01\x02\x00");
+    let store = put_one_shut(second, b"\x01\x00\x01\x01");
+    put_two(store, b"\x02\x01\x02\x00");
+    let other = sheet_of_two();
+    show_ask(store, b"K 0, two places, item 2 must", &other);
+}
+
+// A 2 and a 3 with the same lists and limit subsume each other: the one put first stays.
+fn put_alike() {
+    let store = put_two(store::empty(), b"\x02\x01\x02\x00");
+    put_two(store, b"\x03\x01\x02\x00");
+}
+
 fn main() {
     starred_rounds();
     starred_refusals();
@@ -716,4 +974,10 @@ fn main() {
     numbers();
     overlong_numbers();
     unended_numbers();
+    ask_empty();
+    ask_one();
+    put_subsumed();
+    ask_earliest();
+    put_refused();
+    put_alike();
 }
