@@ -1,7 +1,8 @@
 /* A small planner: it has the sheet B written, asks for the pass, for the reason of each struck
  * item and for a check of each slip, and says in words what came back. Then it shuts a place and a
- * leg, so that the round is refused; then it has a leg that must be driven, for which the round has
- * no time; and last it hands over a sheet that is cut short.
+ * leg, so that the round is refused, and puts the slip on a shelf; a later sheet is answered by the
+ * shelf, without the pass. Then it has a leg that must be driven, for which the round has no time;
+ * and last it hands over a sheet that is cut short.
  *
  *     cc host/planner.c target/staticlib/libplanner.a -o target/planner && target/planner
  */
@@ -21,6 +22,10 @@ static const uint32_t legs[3 * LEGS] = { 0, 1, 4,  1, 3, 4,  0, 2, 3,  2, 3, 9, 
 static uint8_t sheet[WAYS_SHEET_BYTES];
 static uint8_t work[WAYS_WORK_BYTES];
 static uint8_t slip[WAYS_SLIP_BYTES];
+static struct ways_store shelf; /* all zero, so empty */
+
+/* A store has this size on every machine; in C99 an array of -1 chars is what says no. */
+extern char store_has_13332_bytes[sizeof(struct ways_store) == 13332 ? 1 : -1];
 
 /* Reads a number that the library wrote, so well formed, and moves on behind it. */
 static uint32_t get(const uint8_t **at) {
@@ -82,17 +87,36 @@ static void print_struck(size_t sheet_length, uint32_t item) {
     explain(sheet_length, WAYS_LENGTH(number));
 }
 
-/* Asks for the pass on the sheet drawn up, and says what came back. */
-static void judge(size_t sheet_length, const uint8_t marks[ITEMS]) {
+/* Puts the slip of a refused round on the shelf. */
+static void keep(size_t sheet_length, uint32_t slip_length) {
+    uint32_t number =
+        ways_store_put(&shelf, sheet, sheet_length, work, sizeof work, slip, slip_length);
+    printf("  %s\n", number ? "the slip is not put on the shelf" : "the slip is put on the shelf");
+}
+
+/* Asks the shelf about the sheet drawn up, and says what came back. */
+static void look_up(size_t sheet_length) {
+    uint32_t number = ways_store_ask(&shelf, sheet, sheet_length, slip, sizeof slip);
+    if (WAYS_REFUSAL(number) != WAYS_REFUSED_NOT || WAYS_LENGTH(number) == 0) {
+        printf("the shelf has no answer\n");
+        return;
+    }
+    printf("the shelf knows that the round is refused\n");
+    explain(sheet_length, WAYS_LENGTH(number));
+}
+
+/* Asks for the pass on the sheet drawn up, and says what came back. Returns the length of the slip
+ * of a refused round, otherwise 0. */
+static uint32_t judge(size_t sheet_length, const uint8_t marks[ITEMS]) {
     uint32_t number = ways_pass(sheet, sheet_length, work, sizeof work, slip, sizeof slip);
     if (WAYS_REFUSAL(number) != WAYS_REFUSED_NOT) {
         printf("the sheet is refused with %u\n", (unsigned)WAYS_REFUSAL(number));
-        return;
+        return 0;
     }
     if (slip[0] != WAYS_VERDICT_STANDS) {
         printf("the round is refused with verdict %u\n", (unsigned)slip[0]);
         explain(sheet_length, WAYS_LENGTH(number));
-        return;
+        return WAYS_LENGTH(number);
     }
     printf("the round stands\n");
     uint8_t left[ITEMS]; /* the marks that the pass left, since the next call takes the slip */
@@ -104,18 +128,24 @@ static void judge(size_t sheet_length, const uint8_t marks[ITEMS]) {
             print_struck(sheet_length, item);
         }
     }
+    return 0;
 }
 
 int main(void) {
     const uint8_t all_open[ITEMS] = { WAYS_MARK_OPEN };
     const uint8_t closed[ITEMS] = { [1] = WAYS_MARK_SHUT, [5] = WAYS_MARK_SHUT };
+    const uint8_t later[ITEMS] = { [2] = WAYS_MARK_MUST, [5] = WAYS_MARK_SHUT };
     const uint8_t driven[ITEMS] = { [1] = WAYS_MARK_MUST, [6] = WAYS_MARK_MUST };
 
     printf("B, within 8 minutes\n");
     judge(draw_up(8, all_open), all_open);
 
     printf("\nB with place 1 and the leg from 1 to 3 shut\n");
-    judge(draw_up(8, closed), closed);
+    size_t length = draw_up(8, closed);
+    keep(length, judge(length, closed));
+
+    printf("\nB with the leg from 1 to 3 shut and place 2 must\n");
+    look_up(draw_up(8, later));
 
     printf("\nB within 14 minutes, with place 1 and the leg from 0 to 2 must\n");
     judge(draw_up(14, driven), driven);

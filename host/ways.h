@@ -1,4 +1,4 @@
-/* The ways pass, for a planner in C: four functions over memory that the caller lends.
+/* The ways pass, for a planner in C: seven functions over memory that the caller lends.
  *
  * A sheet is a map of places and one-way legs with minutes, a start, a finish, a limit in minutes,
  * and a mark for each item: open, must or shut. Items are numbered once: the n places 0 to n - 1,
@@ -20,21 +20,29 @@
  * The reasons are shut items of the sheet: no walk clear of them, all else open, meets the goals
  * within the limit, and for each of them some walk does once it is open as well.
  *
+ * A shelf keeps slips of refused rounds for later sheets of the same map, start and finish, so that
+ * a planner need not have the same refusal worked out day after day. It is a struct ways_store that
+ * the caller has and lends: ways_store_put, ways_store_ask and ways_store_empty.
+ *
  * docs/FORMATS.md has sheet and slip at length, with examples.
  *
  * What holds of every function:
  *
  *   - It takes any bytes and any lengths, always returns, and reads and writes nothing outside what
  *     it is lent. What it is lent need not hold anything in particular. Bytes need not be aligned;
- *     the legs of ways_write have to be aligned as uint32_t is.
+ *     the legs of ways_write and a struct ways_store have to be aligned as uint32_t is, to four
+ *     bytes.
  *   - A pointer must be good for as many bytes as its length says, or as many numbers as its count
- *     says, and not null even where that is 0. The lent parts must not overlap.
- *   - It uses what it is lent and nothing else: no heap, no file, no errno, no locale, and nothing
- *     is kept between calls. So calls with different buffers may run at the same time.
- *   - It needs up to WAYS_STACK_BYTES of its thread's stack.
+ *     says, or for a struct ways_store, and not null even where a length or count is 0. The lent
+ *     parts must not overlap.
+ *   - It uses what it is lent and nothing else: no heap, no file, no errno, no locale. What the
+ *     shelf's functions keep between calls is in the store that they are lent; the other four keep
+ *     nothing. So calls with different buffers and stores may run at the same time.
+ *   - It needs up to WAYS_STACK_BYTES of its thread's stack, and ways_store_put up to
+ *     WAYS_STORE_STACK_BYTES.
  *   - The number returned is 65,536 times the refusal, plus the length of the slip or sheet that
  *     was written, or for ways_check plus 1 for yes. A refused call gives length 0, or no.
- *     WAYS_REFUSAL and WAYS_LENGTH take the number apart.
+ *     WAYS_REFUSAL and WAYS_LENGTH take the number apart. ways_store_empty returns nothing.
  */
 #ifndef WAYS_H
 #define WAYS_H
@@ -47,17 +55,20 @@ extern "C" {
 #endif
 
 /* The version of this header and of the answers it describes: 100 times the first number plus the
- * second, so 300 is 3.0. CHANGELOG.md says what each version changed. */
-#define WAYS_VERSION 300
+ * second, so 301 is 3.1. CHANGELOG.md says what each version changed. */
+#define WAYS_VERSION 301
 
 #define WAYS_WORK_BYTES 65536u /* what the work must have */
-#define WAYS_SLIP_BYTES 1200u  /* what the slip of ways_pass and ways_reason must have */
+#define WAYS_SLIP_BYTES 1200u  /* what the slip of pass, reason and ask must have */
 #define WAYS_SHEET_BYTES 3144u /* the longest sheet */
+#define WAYS_STORE_SLIPS 64u   /* the most slips on a shelf */
+#define WAYS_STORE_ITEMS 24u   /* the most goals and reasons together of a slip on a shelf */
 
-/* A thread with a stack of this size can make any call: what the largest sheets need, and a margin
- * for the caller's own frames. The host's tests make their calls on such sheets in a thread of this
- * size. */
+/* A thread with a stack of the first size can make any call but ways_store_put, with one of the
+ * second size that one too: what the largest sheets need, and a margin for the caller's own frames.
+ * The host's tests make their calls on such sheets in threads of these sizes. */
 #define WAYS_STACK_BYTES 65536u
+#define WAYS_STORE_STACK_BYTES 98304u
 
 /* The mark of an item, in a sheet and in the slip of a round that stands. */
 enum ways_mark {
@@ -66,7 +77,8 @@ enum ways_mark {
     WAYS_MARK_SHUT = 2  /* a round has to be clear of it */
 };
 
-/* The first number of a slip. ways_pass writes 0 to 3, ways_reason 4, ways_check takes 1 to 4. */
+/* The first number of a slip. ways_pass writes 0 to 3, ways_reason 4, ways_check takes 1 to 4. A
+ * shelf keeps 1 to 3, and ways_store_ask hands them back. */
 enum ways_verdict {
     /* The round stands. The slip has the marks, with each open item shut that no walk clear of the
      * shut items meets within the limit; then each place that is still open and is start, finish or
@@ -88,35 +100,43 @@ enum ways_verdict {
  * draws 4 at the byte that makes it so, whatever stands behind. ways_write judges the same numbers
  * in the same order, but that 3 comes behind 8. Which call draws which:
  *
- *   ways_pass     1 to 13
- *   ways_reason   1 to 13, 15, 16
- *   ways_check    1, 3 to 13, 17, 18
- *   ways_write    5 to 8, then 3, then 9 to 11, 13, 19
+ *   ways_pass       1 to 13
+ *   ways_reason     1 to 13, 15, 16
+ *   ways_check      1, 3 to 13, 17, 18
+ *   ways_write      5 to 8, then 3, then 9 to 11, 13, 19
+ *   ways_store_put  1, 3 to 13, 17, 18, 20, 22, 23
+ *   ways_store_ask  2 to 13, 22
  */
 enum ways_refusal {
-    WAYS_REFUSED_NOT = 0,          /* the call finished */
-    WAYS_REFUSED_WORK_SHORT = 1,   /* the work has under 65,536 bytes */
-    WAYS_REFUSED_SLIP_SHORT = 2,   /* pass, reason: the slip has under 1,200 bytes */
-    WAYS_REFUSED_SHEET_ENDS = 3,   /* the sheet ends before its last number does; write: a list is
-                                    * shorter or longer than n and m say */
-    WAYS_REFUSED_NUMBER = 4,       /* over four groups, or a needless last group of zero */
-    WAYS_REFUSED_PLACES = 5,       /* n is not 2 to 64 */
-    WAYS_REFUSED_LEGS = 6,         /* m is over 512 */
-    WAYS_REFUSED_START_FINISH = 7, /* start or finish is no place, or they are the same */
-    WAYS_REFUSED_LIMIT = 8,        /* the limit is over 1,000,000 */
-    WAYS_REFUSED_LEG_ENDS = 9,     /* a leg's end is no place, or its head is its tail */
-    WAYS_REFUSED_MINUTES = 10,     /* a leg's minutes are over 65,535 */
-    WAYS_REFUSED_MARK = 11,        /* a mark is over 2 */
-    WAYS_REFUSED_BYTES_LEFT = 12,  /* bytes remain behind the last mark */
-    WAYS_REFUSED_STOPS = 13,       /* there are over eight counted items, legs as well as stops */
-    WAYS_REFUSED_NO_ITEM = 15,     /* reason: there is no such item */
-    WAYS_REFUSED_NOT_STRUCK = 16,  /* reason: the pass on this sheet does not strike the item */
-    WAYS_REFUSED_SLIP_FORM = 17,   /* check: the slip ends early, has a badly written number, a
-                                    * first number not 1 to 4, or bytes left over */
-    WAYS_REFUSED_SLIP_LISTS = 18,  /* check: an unknown item; goals or reasons not strictly
-                                    * ascending; or a goal count not 0, 1, 1 to 8, 1 for first
-                                    * numbers 1, 2, 3, 4 */
-    WAYS_REFUSED_SHEET_SHORT = 19  /* write: the slice is shorter than the sheet */
+    WAYS_REFUSED_NOT = 0,            /* the call finished */
+    WAYS_REFUSED_WORK_SHORT = 1,     /* the work has under 65,536 bytes */
+    WAYS_REFUSED_SLIP_SHORT = 2,     /* pass, reason, ask: the slip has under 1,200 bytes */
+    WAYS_REFUSED_SHEET_ENDS = 3,     /* the sheet ends before its last number does; write: a list is
+                                      * shorter or longer than n and m say */
+    WAYS_REFUSED_NUMBER = 4,         /* over four groups, or a needless last group of zero */
+    WAYS_REFUSED_PLACES = 5,         /* n is not 2 to 64 */
+    WAYS_REFUSED_LEGS = 6,           /* m is over 512 */
+    WAYS_REFUSED_START_FINISH = 7,   /* start or finish is no place, or they are the same */
+    WAYS_REFUSED_LIMIT = 8,          /* the limit is over 1,000,000 */
+    WAYS_REFUSED_LEG_ENDS = 9,       /* a leg's end is no place, or its head is its tail */
+    WAYS_REFUSED_MINUTES = 10,       /* a leg's minutes are over 65,535 */
+    WAYS_REFUSED_MARK = 11,          /* a mark is over 2 */
+    WAYS_REFUSED_BYTES_LEFT = 12,    /* bytes remain behind the last mark */
+    WAYS_REFUSED_STOPS = 13,         /* there are over eight counted items, legs as well as stops */
+    WAYS_REFUSED_NO_ITEM = 15,       /* reason: there is no such item */
+    WAYS_REFUSED_NOT_STRUCK = 16,    /* reason: the pass on this sheet does not strike the item */
+    WAYS_REFUSED_SLIP_FORM = 17,     /* check, put: the slip ends early, has a badly written number,
+                                      * a first number not 1 to 4, or bytes left over */
+    WAYS_REFUSED_SLIP_LISTS = 18,    /* check, put: an unknown item; goals or reasons not strictly
+                                      * ascending; or a goal count not 0, 1, 1 to 8, 1 for first
+                                      * numbers 1, 2, 3, 4 */
+    WAYS_REFUSED_SHEET_SHORT = 19,   /* write: the slice is shorter than the sheet */
+    WAYS_REFUSED_NOT_SHELVABLE = 20, /* put: check says no to the slip, its first number is 4, or it
+                                      * has over 24 goals and reasons together */
+    WAYS_REFUSED_OTHER_MAP = 22,     /* put, ask: the sheet has another map, start or finish than
+                                      * the slips on the shelf */
+    WAYS_REFUSED_STORE_FULL = 23     /* put: no slip on the shelf covers the newcomer, and 64 remain
+                                      * that it does not cover */
 };
 
 /* The parts of the number that a call returns: an enum ways_refusal, and the length of the slip or
@@ -203,6 +223,93 @@ uint32_t ways_check(const uint8_t *sheet, size_t sheet_len, uint8_t *work, size_
 uint32_t ways_write(uint32_t n, uint32_t m, uint32_t start, uint32_t finish, uint32_t limit,
                     const uint32_t *legs, size_t legs_count, const uint8_t *marks,
                     size_t marks_len, uint8_t *sheet, size_t sheet_len);
+
+/* A slip on a shelf. */
+struct ways_slot {
+    uint32_t first;                   /* its first number, 1 to 3 */
+    uint32_t limit;                   /* the limit of the sheet that it was put with */
+    uint32_t goals;                   /* how many goals it has */
+    uint32_t reasons;                 /* how many reasons it has */
+    uint32_t items[WAYS_STORE_ITEMS]; /* the goals, and behind them the reasons */
+};
+
+/* A shelf: 13,332 bytes that the caller has. Treat it as closed; begin with ways_store_empty or all
+ * zero; one store, one thread at a time. The fields are here so that C knows the size, and for
+ * whoever looks for a fault. It may be copied as any struct is.
+ *
+ * With count 0 it is empty, whatever else it holds. What the calls promise, they promise of a store
+ * that was empty once and that only they have changed since. Any other bytes may be lent as well:
+ * no count is trusted, the store is read as a shelf of at most 64 slips of at most 24 items and of
+ * at most 512 legs, and the calls stay inside their ends and return. But a slip that is handed back
+ * then means nothing.
+ */
+struct ways_store {
+    uint32_t count;                           /* how many slips there are */
+    uint32_t nodes;                           /* their map: how many places it has */
+    uint32_t arcs;                            /* how many legs */
+    uint32_t source;                          /* their start */
+    uint32_t target;                          /* their finish */
+    uint32_t legs[1536];                      /* tail, head, minutes of each leg */
+    struct ways_slot slots[WAYS_STORE_SLIPS]; /* the slips, earliest put first */
+};
+
+/* Puts the slip of a refused round on a shelf, with the limit of its sheet.
+ *
+ * The sheet and the slip have to be such that ways_check says yes; so what ways_pass wrote for the
+ * sheet with verdict 1 to 3 is taken, if it has at most 24 goals and reasons together. The first
+ * slip that is put on an empty shelf fixes the map, the start and the finish of all later ones.
+ *
+ * A slip covers another when its goals are among the other's goals, its reasons among the other's
+ * reasons, and its limit is at least as great; the first numbers play no part. Wherever the other
+ * applies, it does too. So a newcomer that a slip on the shelf covers is dropped: the put finishes,
+ * with 0 as any other, and nothing is changed. Otherwise the slips that the newcomer covers are
+ * removed, their room is used again, and the newcomer comes last. So on a shelf no slip covers
+ * another, and a sheet to which some slip applied before a put has one that applies afterwards.
+ *
+ * Refusals are judged in this order: 1; 3 to 13 for the sheet; 17, 18 for the slip; 20; 22, which
+ * an empty shelf never draws; then whether the newcomer is covered; and last 23.
+ *
+ * Returns 65,536 times the refusal (1, 3 to 13, 17, 18, 20, 22, 23), or 0.
+ *
+ *   store   Refused, or the newcomer is covered: every byte as it was. Otherwise: the shelf is as
+ *           said above. Slots behind the count, and numbers behind the last leg or the last reason
+ *           of a slot, may hold anything then.
+ *   sheet   is only read.
+ *   work    Refused 1 or 3 to 13: as it was. Refused 17 to 23 or finished: its first 65,536 bytes
+ *           are zero. Bytes beyond those are as they were. What it holds before has no effect.
+ *   slip    is only read. It may have any length.
+ */
+uint32_t ways_store_put(struct ways_store *store, const uint8_t *sheet, size_t sheet_len,
+                        uint8_t *work, size_t work_len, const uint8_t *slip, size_t slip_len);
+
+/* Asks a shelf about a sheet: writes the earliest put slip that applies to it, if one does. Then
+ * ways_pass on that sheet finishes with verdict 1, 2 or 3, though its own slip may be another. What
+ * is written is the slip as it was put.
+ *
+ * A slip applies when each of its reasons is shut on the sheet, each of its goals is must there,
+ * and the sheet's limit is no greater than the one that it was put with. That none applies says
+ * nothing of the round: ask ways_pass. It needs no work and takes far less time than ways_pass on a
+ * sheet with many closures.
+ *
+ * Refusals are judged in this order: 2; 3 to 13 for the sheet; 22, which an empty shelf never
+ * draws: it has no slip, so none that applies.
+ *
+ * Returns 65,536 times the refusal (2 to 13, 22), or the slip's length, at least 3 and at most 51,
+ * or 0 where no slip applies.
+ *
+ *   store   is only read.
+ *   sheet   is only read.
+ *   slip    Refused, or no slip applies: as it was. Otherwise: the slip is at its front, without
+ *           the limit that it was put with; the bytes behind it are as they were. What it holds
+ *           before has no effect.
+ */
+uint32_t ways_store_ask(const struct ways_store *store, const uint8_t *sheet, size_t sheet_len,
+                        uint8_t *slip, size_t slip_len);
+
+/* Makes a shelf empty: all its bytes are zero then. It is for any map, start and finish again. What
+ * the store holds before has no effect.
+ */
+void ways_store_empty(struct ways_store *store);
 
 #ifdef __cplusplus
 }

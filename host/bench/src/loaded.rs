@@ -4,6 +4,7 @@
 use std::ffi::{c_char, c_int, c_void, CString};
 use std::path::Path;
 use std::process::Command;
+use ways::Store;
 
 extern "C" {
     fn dlopen(file: *const c_char, mode: c_int) -> *mut c_void;
@@ -17,14 +18,18 @@ type Call = unsafe extern "C" fn(*const u8, usize, *mut u8, usize, *mut u8, usiz
 type CallItem = unsafe extern "C" fn(*const u8, usize, *mut u8, usize, *mut u8, usize, u32) -> u32;
 type CallDraft = unsafe extern "C" fn(u32, u32, u32, u32, u32, *const u32, usize, *const u8, usize, *mut u8, usize) -> u32;
 type CallSlip = unsafe extern "C" fn(*const u8, usize, *mut u8, usize, *const u8, usize) -> u32;
+type CallPut = unsafe extern "C" fn(*mut Store, *const u8, usize, *mut u8, usize, *const u8, usize) -> u32;
+type CallAsk = unsafe extern "C" fn(*const Store, *const u8, usize, *mut u8, usize) -> u32;
 
-/// The functions of the library; one made before the writer has none.
+/// The functions of the library; one made before the writer or the shelf has none.
 #[derive(Clone, Copy)]
 pub struct Loaded {
     pass: Call,
     reason: CallItem,
     check: CallSlip,
     write: Option<CallDraft>,
+    put: Option<CallPut>,
+    ask: Option<CallAsk>,
 }
 
 impl Loaded {
@@ -55,6 +60,8 @@ impl Loaded {
                 reason: std::mem::transmute::<*mut c_void, CallItem>(find("ways_reason")),
                 check: std::mem::transmute::<*mut c_void, CallSlip>(find("ways_check")),
                 write: look("ways_write").map(|found| std::mem::transmute::<*mut c_void, CallDraft>(found)),
+                put: look("ways_store_put").map(|found| std::mem::transmute::<*mut c_void, CallPut>(found)),
+                ask: look("ways_store_ask").map(|found| std::mem::transmute::<*mut c_void, CallAsk>(found)),
             }
         }
     }
@@ -79,5 +86,19 @@ impl Loaded {
         let [n, m, start, finish, limit] = front;
         let write = self.write.expect("a library that writes");
         unsafe { write(n, m, start, finish, limit, arcs.as_ptr(), arcs.len(), marks.as_ptr(), marks.len(), sheet.as_mut_ptr(), sheet.len()) }
+    }
+
+    pub fn can_keep(&self) -> bool {
+        self.put.is_some() && self.ask.is_some()
+    }
+
+    pub fn put(&self, store: &mut Store, sheet: &[u8], work: &mut [u8], slip: &[u8]) -> u32 {
+        let put = self.put.expect("a library with a shelf");
+        unsafe { put(store, sheet.as_ptr(), sheet.len(), work.as_mut_ptr(), work.len(), slip.as_ptr(), slip.len()) }
+    }
+
+    pub fn ask(&self, store: &Store, sheet: &[u8], slip: &mut [u8]) -> u32 {
+        let ask = self.ask.expect("a library with a shelf");
+        unsafe { ask(store, sheet.as_ptr(), sheet.len(), slip.as_mut_ptr(), slip.len()) }
     }
 }

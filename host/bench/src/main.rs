@@ -5,17 +5,23 @@
 //! With `WAYS_BEFORE` set to the path of an earlier `libplanner.a`, that one takes its turns too, both loaded alike, and the last column is the present
 //! library's time in terms of the earlier one's. Where that one cannot make the call, or answers otherwise, a row ends before its columns.
 //!
-//! With `WAYS_PROGRAM` and `COST_PROGRAM` set to the paths of the programs, a second table has the times of these.
+//! A second table has calls on shelves beside other calls on the same sheets, and how much of the others' time they may take.
+//!
+//! With `WAYS_PROGRAM` and `COST_PROGRAM` set to the paths of the programs, a third table has the times of these.
 
 mod loaded;
 mod processes;
 mod sheets;
+mod shelves;
 
 use loaded::Loaded;
+use reference::Shelf;
 use sheets::{standard, Operation, Standard};
+use shelves::{shelf_rows, Beside, Kept};
 use std::hint::black_box;
 use std::path::Path;
 use std::time::{Duration, Instant};
+use ways::{Store, SHEET_BYTES, SLIP_BYTES, WORK_BYTES};
 
 const WARM_UP: Duration = Duration::from_millis(100);
 const SAMPLES: usize = 1_001;
@@ -27,6 +33,31 @@ struct Lent {
     work: Vec<u8>,
     slip: Vec<u8>,
     written: Vec<u8>,
+    /// what is put on
+    store: Box<Store>,
+    shelf: Shelf,
+}
+
+impl Lent {
+    fn new() -> Lent {
+        Lent { work: vec![0; WORK_BYTES], slip: vec![0; SLIP_BYTES], written: vec![0; SHEET_BYTES], store: Store::zeroed(), shelf: Shelf::default() }
+    }
+
+    /// Lends a row's own shelf for its puts.
+    fn lay_out(&mut self, operation: &Operation) {
+        self.slip.fill(0);
+        self.written.fill(0);
+        if let Operation::Put(kept, _) = operation {
+            self.store.clone_from(&kept.store);
+            self.shelf.clone_from(&kept.shelf);
+        }
+    }
+
+    /// Takes off again what was put last, so that the next put finds the shelf as it was.
+    fn take_off(&mut self, kept: &Kept) {
+        self.store.count = kept.store.count;
+        self.shelf.slips.truncate(kept.shelf.slips.len());
+    }
 }
 
 /// Who is timed.
@@ -38,10 +69,17 @@ enum Timed {
 
 impl Timed {
     fn can(&self, operation: &Operation) -> bool {
-        !matches!((self, operation), (Timed::Loaded(loaded), Operation::Write(_)) if !loaded.can_write())
+        match (self, operation) {
+            (Timed::Loaded(loaded), Operation::Write(_)) => loaded.can_write(),
+            (Timed::Loaded(loaded), Operation::Put(..) | Operation::Ask(_)) => loaded.can_keep(),
+            _ => true,
+        }
     }
 
     fn run(&self, standard: &Standard, lent: &mut Lent) -> u32 {
+        if let Operation::Put(kept, _) = &standard.operation {
+            lent.take_off(kept);
+        }
         let (sheet, work, slip) = (&standard.sheet, &mut lent.work, &mut lent.slip);
         match (self, &standard.operation) {
             (Timed::Library, Operation::Pass) => ways::numbers::pass(sheet, work, slip),
@@ -56,6 +94,12 @@ impl Timed {
             (Timed::Library, Operation::Write(draft)) => ways::numbers::write(draft.front, &draft.arcs, &draft.marks, &mut lent.written),
             (Timed::Reference, Operation::Write(draft)) => reference::write_sheet(draft.front, &draft.arcs, &draft.marks, &mut lent.written),
             (Timed::Loaded(loaded), Operation::Write(draft)) => loaded.write(draft.front, &draft.arcs, &draft.marks, &mut lent.written),
+            (Timed::Library, Operation::Put(_, slip)) => ways::numbers::store_put(&mut lent.store, sheet, work, slip),
+            (Timed::Reference, Operation::Put(_, slip)) => lent.shelf.put(sheet, work, slip),
+            (Timed::Loaded(loaded), Operation::Put(_, slip)) => loaded.put(&mut lent.store, sheet, work, slip),
+            (Timed::Library, Operation::Ask(kept)) => ways::numbers::store_ask(&kept.store, sheet, slip),
+            (Timed::Reference, Operation::Ask(kept)) => kept.shelf.ask(sheet, slip),
+            (Timed::Loaded(loaded), Operation::Ask(kept)) => loaded.ask(&kept.store, sheet, slip),
         }
     }
 }
@@ -86,8 +130,7 @@ fn median(mut samples: Vec<f64>) -> f64 {
 
 /// The number, slip and sheet of a call; none where it cannot be made.
 fn answer(timed: &Timed, standard: &Standard, lent: &mut Lent) -> Option<(u32, Vec<u8>, Vec<u8>)> {
-    lent.slip.fill(0);
-    lent.written.fill(0);
+    lent.lay_out(&standard.operation);
     timed.can(&standard.operation).then(|| (timed.run(standard, lent), lent.slip.clone(), lent.written.clone()))
 }
 
@@ -125,8 +168,28 @@ fn shown(micros: f64) -> String {
     format!("{micros:.decimals$}")
 }
 
+/// A row of the first table.
+fn row(all: &[Timed], standard: &Standard, lent: &mut Lent) {
+    let times = time(alike(all, standard, lent), standard, lent);
+    print!("| {} | {} | {} | {} | {:.2} |", standard.operation.name(), standard.name, shown(times[0]), shown(times[1]), times[0] / times[1]);
+    if let Some(before) = times.get(2) {
+        print!(" {} | {:.2} |", shown(*before), times[0] / before);
+    }
+    println!();
+}
+
+/// A row of the second table: two calls of one library, turn by turn.
+fn beside_row(library: &Timed, Beside { call, other, most }: &Beside, lent: &mut Lent) {
+    lent.lay_out(&call.operation);
+    let both = [call, other];
+    let calls = both.map(|standard| warm_up(library, standard, lent));
+    let times = medians(2, SAMPLES, |at| sample(library, both[at], lent, calls[at]));
+    let (name, other_name, ratio) = (call.operation.name(), other.operation.name(), times[0] / times[1]);
+    println!("| {name} | {} | {} | {other_name} | {} | {ratio:.3} | {most} |", call.name, shown(times[0]), shown(times[1]));
+}
+
 fn main() {
-    let mut lent = Lent { work: vec![0; ways::WORK_BYTES], slip: vec![0; ways::SLIP_BYTES], written: vec![0; ways::SHEET_BYTES] };
+    let mut lent = Lent::new();
     let mut all = vec![Timed::Library, Timed::Reference];
     let before = std::env::var_os("WAYS_BEFORE");
     if let Some(archive) = &before {
@@ -136,13 +199,11 @@ fn main() {
     let (head, rule) = if before.is_some() { (" before, µs | ratio |", "---:|---:|") } else { ("", "") };
     println!("| operation | sheet | library, µs | reference, µs | ratio |{head}");
     println!("|---|---|---:|---:|---:|{rule}");
-    for standard in standard() {
-        let times = time(alike(&all, &standard, &mut lent), &standard, &mut lent);
-        print!("| {} | {} | {} | {} | {:.2} |", standard.operation.name(), standard.name, shown(times[0]), shown(times[1]), times[0] / times[1]);
-        if let Some(before) = times.get(2) {
-            print!(" {} | {:.2} |", shown(*before), times[0] / before);
-        }
-        println!();
-    }
+    standard().iter().for_each(|standard| row(&all, standard, &mut lent));
+    let shelf_rows = shelf_rows();
+    shelf_rows.iter().for_each(|beside| row(&all, &beside.call, &mut lent));
+    println!("\n| operation | sheet | library, µs | beside | library, µs | ratio | at most |");
+    println!("|---|---|---:|---|---:|---:|---:|");
+    shelf_rows.iter().for_each(|beside| beside_row(&all[0], beside, &mut lent));
     processes::table();
 }

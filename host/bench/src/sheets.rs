@@ -1,5 +1,6 @@
 //! The standard sheets.
 
+use crate::shelves::Kept;
 use cases::{sheet_b, Draft, Random, Sheet, Slip, FORBIDDEN, MANDATORY, OPEN};
 use reference::{least, SLIP_BYTES, WORK_BYTES};
 
@@ -8,6 +9,9 @@ pub enum Operation {
     Reason(u32),
     Check(Vec<u8>),
     Write(Draft),
+    /// the shelf beforehand, and the slip
+    Put(Kept, Vec<u8>),
+    Ask(Kept),
 }
 
 impl Operation {
@@ -17,6 +21,8 @@ impl Operation {
             Operation::Reason(_) => "reason",
             Operation::Check(_) => "check",
             Operation::Write(_) => "write",
+            Operation::Put(..) => "put",
+            Operation::Ask(_) => "ask",
         }
     }
 }
@@ -33,7 +39,7 @@ const NODES: usize = 64;
 const ARCS: usize = 512;
 
 /// 64 nodes and 512 arcs, all open. A ring comes first, so that every node can be reached.
-fn full(seed: u64) -> Sheet {
+pub fn full(seed: u64) -> Sheet {
     let mut random = Random::new(seed);
     let arcs: Vec<[u32; 3]> = (0..ARCS)
         .map(|arc| {
@@ -70,7 +76,7 @@ fn driven(sheet: &Sheet) -> Sheet {
 }
 
 /// Every second arc behind the ring forbidden, `count` of them.
-fn half_closed(sheet: &Sheet, count: usize) -> Sheet {
+pub fn half_closed(sheet: &Sheet, count: usize) -> Sheet {
     sheet.with_marks((NODES + NODES..NODES + ARCS).step_by(2).take(count), FORBIDDEN)
 }
 
@@ -97,17 +103,17 @@ fn chain(seed: u64, against: bool) -> Sheet {
     Sheet::new(NODES as u32, number(0), number(NODES - 1), 3 * NODES as u32, &arcs)
 }
 
-fn all_closed(sheet: &Sheet) -> Sheet {
+pub fn all_closed(sheet: &Sheet) -> Sheet {
     Sheet { marks: vec![FORBIDDEN; sheet.marks.len()], ..sheet.clone() }
 }
 
 /// The least length through all required items, or with none of them from source to target.
-fn least_length(sheet: &Sheet) -> u32 {
+pub fn least_length(sheet: &Sheet) -> u32 {
     let read = reference::Sheet::read(&sheet.bytes()).expect("a good sheet");
     least(&read, &read.required_items).expect("the ring is open") as u32
 }
 
-fn pass_slip(sheet: &Sheet) -> Vec<u8> {
+pub fn pass_slip(sheet: &Sheet) -> Vec<u8> {
     let mut slip = vec![0; SLIP_BYTES];
     let length = reference::pass(&sheet.bytes(), &mut vec![0; WORK_BYTES], &mut slip);
     slip.truncate(length as usize);
@@ -129,7 +135,7 @@ fn struck(sheet: &Sheet) -> u32 {
     item.expect("an item is struck") as u32
 }
 
-fn pass(name: &str, sheet: &Sheet, expected: u8) -> Standard {
+pub fn pass(name: &str, sheet: &Sheet, expected: u8) -> Standard {
     assert_eq!(verdict(sheet), expected, "{name}");
     let name = match (closures(sheet), Slip::written(&pass_slip(sheet))) {
         (closed, Some(slip)) => format!("{name}, {closed} closures: verdict {expected}, {} reasons", slip.reasons.len()),
@@ -147,7 +153,7 @@ fn reason(name: &str, sheet: &Sheet) -> Standard {
     Standard { name: format!("{name}, {} closures: item {item}", closures(sheet)), sheet: sheet.bytes(), operation: Operation::Reason(item), refusal: 0 }
 }
 
-fn check(name: &str, sheet: &Sheet, slip: Vec<u8>) -> Standard {
+pub fn check(name: &str, sheet: &Sheet, slip: Vec<u8>) -> Standard {
     Standard { name: name.to_string(), sheet: sheet.bytes(), operation: Operation::Check(slip), refusal: 0 }
 }
 
@@ -163,15 +169,21 @@ fn longest() -> Sheet {
     Sheet::new(NODES as u32, 0, NODES as u32 - 1, 1_000_000, &arcs)
 }
 
+/// Eight required and 224 closures, some of which are to blame.
+pub fn blamed() -> Sheet {
+    let eight = demanding(&full(1));
+    let closed = half_closed(&eight, 224);
+    closed.with_limit((least_length(&eight) + least_length(&closed)) / 2)
+}
+
 pub fn standard() -> Vec<Standard> {
     let plain = full(1);
     let free = plain.with_limit(least_length(&plain) * 2);
     let eight = demanding(&plain);
     let eight_fit = eight.with_limit(least_length(&eight));
-    let closed = half_closed(&eight, 224);
-    let (open_length, closed_length) = (least_length(&eight), least_length(&closed));
-    let blamed = closed.with_limit((open_length + closed_length) / 2);
-    let too_long = closed.with_limit(open_length - 1);
+    let open_length = least_length(&eight);
+    let blamed = blamed();
+    let too_long = blamed.with_limit(open_length - 1);
     let all = all_closed(&plain).with_limit(least_length(&plain));
     let arcs = driven(&plain);
     let arcs_fit = arcs.with_limit(least_length(&arcs));

@@ -72,7 +72,8 @@ fn goals_of_a_3(goals: &[u32], sheet: &Sheet, random: &mut Random) -> Vec<Vec<u3
     all
 }
 
-fn ascending(mut list: Vec<u32>) -> Vec<u32> {
+/// Each entry once, going up.
+pub fn ascending(mut list: Vec<u32>) -> Vec<u32> {
     list.sort();
     list.dedup();
     list

@@ -28,21 +28,23 @@ const SHEET_SHORT: Refusal = 19;
 const NO_GOAL: usize = 1;
 const ONE_GOAL: usize = 2;
 const ALL_GOALS: usize = 3;
-const PRUNED: usize = 4;
+pub const PRUNED: usize = 4;
 
 pub fn pass(sheet: &[u8], work: &mut [u8], slip: &mut [u8]) -> u32 {
-    let answer = lent(work, Some(slip)).and_then(|()| Sheet::read(sheet)).map(|sheet| pass_on(&sheet, slip));
+    let lent = work_lent(work).and_then(|()| slip_lent(slip));
+    let answer = lent.and_then(|()| Sheet::read(sheet)).map(|sheet| pass_on(&sheet, slip));
     outcome(answer, work)
 }
 
 pub fn reason(sheet: &[u8], work: &mut [u8], slip: &mut [u8], item: u32) -> u32 {
-    let answer = lent(work, Some(slip)).and_then(|()| Sheet::read(sheet)).and_then(|sheet| reason_on(&sheet, slip, item as usize));
+    let lent = work_lent(work).and_then(|()| slip_lent(slip));
+    let answer = lent.and_then(|()| Sheet::read(sheet)).and_then(|sheet| reason_on(&sheet, slip, item as usize));
     outcome(answer, work)
 }
 
 pub fn check(sheet: &[u8], work: &mut [u8], slip: &[u8]) -> u32 {
-    let answer = lent(work, None).and_then(|()| Sheet::read(sheet)).and_then(|sheet| check_on(&sheet, slip));
-    outcome(answer.map(usize::from), work)
+    let answer = work_lent(work).and_then(|()| Sheet::read(sheet)).and_then(|sheet| check_on(&sheet, slip));
+    outcome(answer.map(|(_, yes)| yes.into()), work)
 }
 
 /// Writes a sheet from its five first numbers, the arcs' numbers and the marks. Nothing is judged here but the lists' lengths: the numbers are written, each cut to
@@ -76,20 +78,31 @@ fn drafted(front: [u32; 5], arcs: &[u32], marks: &[u8]) -> Result<Vec<u8>, Refus
     Sheet::read(&bytes).map(|_| bytes)
 }
 
-fn lent(work: &[u8], slip: Option<&[u8]>) -> Result<(), Refusal> {
+pub fn work_lent(work: &[u8]) -> Result<(), Refusal> {
     if work.len() < WORK_BYTES {
-        return Err(WORK_SHORT);
-    }
-    match slip {
-        Some(slip) if slip.len() < SLIP_BYTES => Err(SLIP_SHORT),
-        _ => Ok(()),
+        Err(WORK_SHORT)
+    } else {
+        Ok(())
     }
 }
 
-fn outcome(answer: Result<usize, Refusal>, work: &mut [u8]) -> u32 {
+pub fn slip_lent(slip: &[u8]) -> Result<(), Refusal> {
+    if slip.len() < SLIP_BYTES {
+        Err(SLIP_SHORT)
+    } else {
+        Ok(())
+    }
+}
+
+/// What a call with work gives and leaves in it.
+pub fn outcome(answer: Result<usize, Refusal>, work: &mut [u8]) -> u32 {
     if !matches!(answer, Err(refusal) if refusal <= LAST_THAT_KEEPS_WORK) {
         work[..WORK_BYTES].fill(0);
     }
+    one_number(answer)
+}
+
+pub fn one_number(answer: Result<usize, Refusal>) -> u32 {
     match answer {
         Ok(length) => length as u32,
         Err(refusal) => refusal * LENGTHS,
@@ -187,13 +200,15 @@ fn reason_on(sheet: &Sheet, slip: &mut [u8], item: usize) -> Result<usize, Refus
     Ok(Slip { first: PRUNED, goals: vec![item], reasons }.write(slip))
 }
 
-fn check_on(sheet: &Sheet, slip: &[u8]) -> Result<bool, Refusal> {
+/// What the slip says and whether check says yes to it, or 17 or 18.
+pub fn check_on(sheet: &Sheet, slip: &[u8]) -> Result<(Slip, bool), Refusal> {
     let slip = Slip::read(slip)?;
     if !is_well_formed(sheet, &slip) {
         return Err(SLIP_ITEMS);
     }
     let marked = slip.reasons.iter().all(|&item| sheet.marks[item] == FORBIDDEN) && slip.goals.iter().all(|&goal| is_goal(sheet, slip.first, goal));
-    Ok(marked && is_reason(sheet, &slip))
+    let yes = marked && is_reason(sheet, &slip);
+    Ok((slip, yes))
 }
 
 fn is_well_formed(sheet: &Sheet, slip: &Slip) -> bool {

@@ -23,7 +23,7 @@ const MARK: Refusal = 11;
 const BYTES_REMAIN: Refusal = 12;
 const TOO_MANY_REQUIRED: Refusal = 13;
 
-#[derive(Clone, Copy, Debug)]
+#[derive(Clone, Copy, Debug, PartialEq, Eq)]
 pub struct Arc {
     pub tail: u32,
     pub head: u32,

@@ -1,7 +1,7 @@
 //! Slips: what they say, and their bytes.
 
 use crate::number::{write, Reader};
-use crate::operations::Refusal;
+use crate::operations::{Refusal, SLIP_BYTES};
 
 const SLIP: Refusal = 17;
 
@@ -38,6 +38,13 @@ impl Slip {
             }
         }
         at
+    }
+
+    pub fn bytes(&self) -> Vec<u8> {
+        let mut bytes = vec![0; SLIP_BYTES];
+        let length = self.write(&mut bytes);
+        bytes.truncate(length);
+        bytes
     }
 }
 

@@ -3,15 +3,20 @@
 mod asked;
 mod desk;
 mod guard;
+mod keeping;
+mod lent;
 mod process;
 mod stack;
+mod store;
 mod writing;
 
 pub use asked::{items_to_ask, with_close_limit};
 pub use desk::{Call, Desk};
 pub use guard::Guarded;
+pub use keeping::{put_on, ShelfDesk, Tally};
 pub use process::Program;
 pub use stack::stack_used;
+pub use store::{bytes_of, shelf_of, store_in, store_in_mut};
 pub use writing::WritingDesk;
 
 use std::path::{Path, PathBuf};

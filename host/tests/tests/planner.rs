@@ -55,9 +55,35 @@ fn the_numbers_of_the_header() {
     assert_eq!(defined("WAYS_WORK_BYTES"), ways::WORK_BYTES);
     assert_eq!(defined("WAYS_SLIP_BYTES"), ways::SLIP_BYTES);
     assert_eq!(defined("WAYS_SHEET_BYTES"), ways::SHEET_BYTES);
+    assert_eq!(defined("WAYS_STORE_SLIPS"), ways::STORE_SLIPS);
+    assert_eq!(defined("WAYS_STORE_ITEMS"), ways::STORE_ITEMS);
     assert_eq!(enumerated("WAYS_MARK_"), [cases::OPEN, cases::MANDATORY, cases::FORBIDDEN]);
     assert_eq!(enumerated("WAYS_VERDICT_"), (0..=4).collect::<Vec<_>>());
-    assert_eq!(enumerated("WAYS_REFUSED_"), (0..=13).chain(15..=19).collect::<Vec<_>>());
+    assert_eq!(enumerated("WAYS_REFUSED_"), (0..=13).chain(15..=20).chain(22..=23).collect::<Vec<_>>());
+}
+
+/// Name and count of each field of a struct in the header, in its order.
+fn fields(name: &str) -> Vec<(&'static str, usize)> {
+    let (_, rest) = HEADER.split_once(&format!("\nstruct {name} {{\n")).expect("the struct");
+    let (lines, _) = rest.split_once("\n};").expect("its end");
+    let field = |line: &'static str| {
+        let (declared, _) = line.split_once(';').expect("a field");
+        let name = declared.rsplit(' ').next().expect("its name");
+        match name.trim_end_matches(']').split_once('[') {
+            Some((name, count)) => (name, count.parse().unwrap_or_else(|_| defined(count))),
+            None => (name, 1),
+        }
+    };
+    lines.lines().map(field).collect()
+}
+
+#[test]
+fn the_store_of_the_header() {
+    assert_eq!(fields("ways_slot"), [("first", 1), ("limit", 1), ("goals", 1), ("reasons", 1), ("items", ways::STORE_ITEMS)]);
+    let front = [("count", 1), ("nodes", 1), ("arcs", 1), ("source", 1), ("target", 1), ("legs", ways::STORE_LEGS)];
+    assert_eq!(fields("ways_store"), [&front[..], &[("slots", ways::STORE_SLIPS)]].concat());
+    assert_eq!((size_of::<ways::Store>(), align_of::<ways::Store>()), (13_332, 4));
+    assert!(HEADER.contains("13,332 bytes"));
 }
 
 #[test]

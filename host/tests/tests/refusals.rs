@@ -1,9 +1,9 @@
 //! Which refusals each function gives, and that it gives no other; none for a walk that is too long to count (request 2.5).
 
-use cases::{alterations, damaged, draw, spoiled, Draft, Random, Sheet, Slip, KINDS, MANDATORY, OPEN};
+use cases::{alterations, crowd, damaged, draw, sheet_b, spoiled, Draft, Random, Sheet, Slip, KINDS, MANDATORY, OPEN};
 use std::collections::BTreeSet;
 use tests::REFUSED;
-use ways::{numbers, SHEET_BYTES, SLIP_BYTES, WORK_BYTES};
+use ways::{numbers, Store, SHEET_BYTES, SLIP_BYTES, WORK_BYTES};
 
 const SHEETS: usize = 1_000;
 
@@ -14,6 +14,8 @@ struct Given {
     reason: BTreeSet<u32>,
     check: BTreeSet<u32>,
     write: BTreeSet<u32>,
+    put: BTreeSet<u32>,
+    ask: BTreeSet<u32>,
 }
 
 struct Calls {
@@ -21,13 +23,14 @@ struct Calls {
     work: Vec<u8>,
     slip: Vec<u8>,
     sheet: Vec<u8>,
+    store: Box<Store>,
     given: Given,
 }
 
 impl Calls {
     fn new() -> Calls {
         let (work, slip, sheet) = (vec![0; WORK_BYTES], vec![0; SLIP_BYTES], vec![0; SHEET_BYTES]);
-        Calls { random: Random::new(1), work, slip, sheet, given: Given::default() }
+        Calls { random: Random::new(1), work, slip, sheet, store: Store::zeroed(), given: Given::default() }
     }
 
     /// Mostly all of a slice, now and then less.
@@ -39,7 +42,7 @@ impl Calls {
         }
     }
 
-    /// The three functions that read a sheet, the last with slips for it in every shape.
+    /// The functions that read a sheet, check and put with slips for it in every shape.
     fn read(&mut self, sheet: &Sheet, bytes: &[u8]) {
         let (work, room) = (self.room(WORK_BYTES), self.room(SLIP_BYTES));
         let passed = numbers::pass(bytes, &mut self.work[..work], &mut self.slip[..room]);
@@ -55,7 +58,19 @@ impl Calls {
         for slip in [&slip.bytes(), &altered[self.random.below(altered.len())], &altered[self.random.below(altered.len())]] {
             let answer = numbers::check(bytes, &mut self.work[..work], slip);
             self.given.check.insert(answer / REFUSED);
+            self.keep(bytes, work, slip, room);
         }
+    }
+
+    /// Puts and asks, on a shelf that may have another map on it from before.
+    fn keep(&mut self, bytes: &[u8], work: usize, slip: &[u8], room: usize) {
+        if self.random.chance(1, 3) {
+            self.store.empty();
+        }
+        let answer = numbers::store_put(&mut self.store, bytes, &mut self.work[..work], slip);
+        self.given.put.insert(answer / REFUSED);
+        let answer = numbers::store_ask(&self.store, bytes, &mut self.slip[..room]);
+        self.given.ask.insert(answer / REFUSED);
     }
 
     fn write(&mut self, draft: &Draft) {
@@ -91,9 +106,17 @@ fn every_refusal_and_no_other() {
             }
         }
     }
+    let (sheet, slips) = crowd(&sheet_b(), 5);
+    calls.store.empty();
+    for slip in slips {
+        let answer = numbers::store_put(&mut calls.store, &sheet.bytes(), &mut calls.work, &slip.bytes());
+        calls.given.put.insert(answer / REFUSED);
+    }
     let of = |ranges: &[std::ops::RangeInclusive<u32>]| ranges.iter().cloned().flatten().collect::<BTreeSet<u32>>();
     assert_eq!(calls.given.pass, of(&[0..=13]));
     assert_eq!(calls.given.reason, of(&[0..=13, 15..=16]));
     assert_eq!(calls.given.check, of(&[0..=1, 3..=13, 17..=18]));
     assert_eq!(calls.given.write, of(&[0..=0, 3..=3, 5..=11, 13..=13, 19..=19]));
+    assert_eq!(calls.given.put, of(&[0..=1, 3..=13, 17..=18, 20..=20, 22..=23]));
+    assert_eq!(calls.given.ask, of(&[0..=0, 2..=13, 22..=22]));
 }

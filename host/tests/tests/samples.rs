@@ -1,8 +1,8 @@
 //! The files of `samples/`: each sheet, and each item number with a sheet, has a text beside it with its bytes and with what is printed for it, and both are true. So
-//! is what docs/FORMATS.md says of them, of the tool, and of a sheet made by hand.
+//! is what the texts say of the shelf, and what docs/FORMATS.md says of the samples, of the tool, and of a sheet made by hand.
 
 use std::path::PathBuf;
-use tests::{hex, samples, Desk};
+use tests::{hex, samples, Desk, ShelfDesk};
 
 const FORMATS: &str = include_str!("../../../docs/FORMATS.md");
 
@@ -41,16 +41,38 @@ fn below(text: &str, heading: &str) -> String {
     text.split_once(&format!("\n{heading}\n\n")).map_or(String::new(), |(_, rest)| indented(rest))
 }
 
+impl Sample {
+    fn text(&self) -> String {
+        std::fs::read_to_string(self.path.with_extension("txt")).expect("a text beside the sample")
+    }
+
+    /// The bytes below a line of the text, in hex.
+    fn written(&self, heading: &str) -> String {
+        below(&self.text(), heading).split_whitespace().collect::<Vec<_>>().join(" ")
+    }
+}
+
 #[test]
 fn samples_say_what_they_are() {
     let (sheets, costs) = (sheets(), costs());
     assert!(sheets.len() >= 5 && !costs.is_empty());
-    for Sample { path, bytes, heading, printed } in sheets.into_iter().chain(costs) {
-        let text = std::fs::read_to_string(path.with_extension("txt")).expect("a text beside the sample");
-        assert_eq!(below(&text, heading), printed, "{}", path.display());
-        let written = below(&text, "Bytes, in hex");
-        assert_eq!(written.split_whitespace().collect::<Vec<_>>().join(" "), hex(&bytes), "{}", path.display());
+    for sample in sheets.into_iter().chain(costs) {
+        assert_eq!(below(&sample.text(), sample.heading), sample.printed, "{}", sample.path.display());
+        assert_eq!(sample.written("Bytes, in hex"), hex(&sample.bytes), "{}", sample.path.display());
     }
+}
+
+/// The slip of the morning's sheet is put, and the later sheet asked about.
+#[test]
+fn the_shelf_answers_a_sample() {
+    let named = |name: &str| sheets().into_iter().find(|sample| sample.path.file_stem().is_some_and(|stem| stem == name)).expect("the sample");
+    let (morning, noon) = (named("harbour-morning"), named("harbour-noon"));
+    let slip = Desk::new(3).pass(&morning.bytes).expect("a good sheet");
+    assert_eq!(hex(&slip), morning.written("The slip that is put, in hex"));
+    let mut desk = ShelfDesk::new(3);
+    assert_eq!(desk.put(&morning.bytes, ways::WORK_BYTES, &slip), 0);
+    let found = desk.ask(&noon.bytes, ways::SLIP_BYTES).expect("a good sheet");
+    assert_eq!(hex(&found), noon.written("The shelf hands back, in hex"));
 }
 
 /// The library beside the reference, which says what is printed.
