@@ -2,7 +2,8 @@
  * item and for a check of each slip, and says in words what came back. Then it shuts a place and a
  * leg, so that the round is refused, and puts the slip on a shelf; a later sheet is answered by the
  * shelf, without the pass. Then it has a leg that must be driven, for which the round has no time;
- * and last it hands over a sheet that is cut short.
+ * then minutes that are spent at a door, for which it has none either; and last it hands over a
+ * sheet that is cut short.
  *
  *     cc host/planner.c target/staticlib/libplanner.a -o target/planner && target/planner
  */
@@ -19,13 +20,15 @@
 /* tail, head and minutes of each leg */
 static const uint32_t legs[3 * LEGS] = { 0, 1, 4,  1, 3, 4,  0, 2, 3,  2, 3, 9,  1, 2, 1 };
 
+static const uint32_t no_services[PLACES] = { 0 };
+
 static uint8_t sheet[WAYS_SHEET_BYTES];
 static uint8_t work[WAYS_WORK_BYTES];
 static uint8_t slip[WAYS_SLIP_BYTES];
 static struct ways_store shelf; /* all zero, so empty */
 
 /* A store has this size on every machine; in C99 an array of -1 chars is what says no. */
-extern char store_has_13332_bytes[sizeof(struct ways_store) == 13332 ? 1 : -1];
+extern char store_has_13588_bytes[sizeof(struct ways_store) == 13588 ? 1 : -1];
 
 /* Reads a number that the library wrote, so well formed, and moves on behind it. */
 static uint32_t get(const uint8_t **at) {
@@ -38,11 +41,12 @@ static uint32_t get(const uint8_t **at) {
     return value | (uint32_t)*(*at)++ << shift;
 }
 
-/* Has the sheet written with this limit and these marks, and returns its length. The numbers are
- * good and there is room, so the call is not refused. */
-static size_t draw_up(uint32_t limit, const uint8_t marks[ITEMS]) {
+/* Has the sheet written with this limit, these marks and these service minutes, and returns its
+ * length. The numbers are good and there is room, so the call is not refused. */
+static size_t draw_up(uint32_t limit, const uint8_t marks[ITEMS],
+                      const uint32_t services[PLACES]) {
     uint32_t number = ways_write(PLACES, LEGS, START, FINISH, limit, legs, 3 * LEGS, marks, ITEMS,
-                                 sheet, sizeof sheet);
+                                 services, PLACES, sheet, sizeof sheet);
     return WAYS_LENGTH(number);
 }
 
@@ -136,21 +140,27 @@ int main(void) {
     const uint8_t closed[ITEMS] = { [1] = WAYS_MARK_SHUT, [5] = WAYS_MARK_SHUT };
     const uint8_t later[ITEMS] = { [2] = WAYS_MARK_MUST, [5] = WAYS_MARK_SHUT };
     const uint8_t driven[ITEMS] = { [1] = WAYS_MARK_MUST, [6] = WAYS_MARK_MUST };
+    const uint32_t unloading[PLACES] = { [1] = 2 };
 
     printf("B, within 8 minutes\n");
-    judge(draw_up(8, all_open), all_open);
+    judge(draw_up(8, all_open, no_services), all_open);
 
     printf("\nB with place 1 and the leg from 1 to 3 shut\n");
-    size_t length = draw_up(8, closed);
+    size_t length = draw_up(8, closed, no_services);
     keep(length, judge(length, closed));
 
     printf("\nB with the leg from 1 to 3 shut and place 2 must\n");
-    look_up(draw_up(8, later));
+    look_up(draw_up(8, later, no_services));
 
     printf("\nB within 14 minutes, with place 1 and the leg from 0 to 2 must\n");
-    judge(draw_up(14, driven), driven);
+    judge(draw_up(14, driven, no_services), driven);
+
+    printf("\nB within 8 minutes, with 2 minutes spent at the door of place 1\n");
+    length = draw_up(8, all_open, unloading);
+    judge(length, all_open);
+    look_up(length);
 
     printf("\nB without its last mark\n");
-    judge(draw_up(8, all_open) - 1, all_open);
+    judge(draw_up(8, all_open, no_services) - 1, all_open);
     return 0;
 }

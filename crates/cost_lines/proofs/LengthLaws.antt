@@ -40,7 +40,7 @@ pub length-is : {h : Header} {arcs : List ℕ} → Mapped h arcs → (marks : Li
     → lengthOf x ≡ least (graphOf (h .nodes) arcs) (closedIn marks) (i ∷ []) (h .source) (h .target)
 length-is {h} {arcs} (own, W) marks i x e =
     ap lengthOf e ∙ held-back 4294967294 _ (omega arith)
-    (λ a q. omega (arith, least-bound (graphOf (h .nodes) arcs) (closedIn marks) (i ∷ []) (h .source) (h .target) 65535 a (good-weight (sheetOf h arcs own) (W .good)) (W .good .nodes) (omega arith) q .1))
+    (λ a q. omega (arith, least-bound (graphOf (h .nodes) arcs) (closedIn marks) (i ∷ []) (h .source) (h .target) 66135 a (good-weight (sheetOf h arcs own) (W .good)) (W .good .nodes) (omega arith) q .1))
 
 -- with one of the listed closures open
 pub opened-is : (h : Header) (arcs list marks : List ℕ) (i r x : ℕ) → Closing (but (λ j. member j list) r) marks

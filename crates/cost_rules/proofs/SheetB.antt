@@ -6,7 +6,9 @@ use Rattle.lists.specs.Lists.{member, every, keep, add, span}
 use Rattle.sheet.specs.Answer.{answerOf}
 use Rattle.pass_rules.specs.Pass.{passOn}
 use Rattle.pass_rules.specs.Verdict.{fitsSheet, unmet, verdictFrom, verdict, isPruned, newMark, newMarks, reasonsFor, slipFor, passSlip}
-use Rattle.sheet.specs.Reader.{arcMinutes, arcHead, readArc, readMark, readMarks, readArcs, headerLimit, headerTarget, headerSource, headerArcs, readHeader, readSheet, complete, taken}
+use Rattle.sheet.specs.Reader.{arcMinutes, arcHead, readArc, readMark, readMarks, readArcs, headerLimit, headerTarget, headerSource, headerArcs, readHeader, readSheet, restOf, past, leadOf, lead, content, readService, someService, readServices, readPage, complete, page, meant, taken}
+use Rattle.sheet.specs.Lent.{zeros}
+use Rattle.sheet.specs.Page.{serviceOf, servedArc, served, sheetOn, noService}
 use Rattle.sheet.specs.Sheet.{markOf, isOpen, isMandatory, isForbidden, allItems, allArcs, endsMandatory, isForced, isRequired, required}
 use Rattle.sheet.specs.Slip.{slipNumbers, slipBytes, marksBytes}
 use Rattle.varint.specs.Varint.{after, lastGroup, above, readGroups, readNumber, judged, number, several, writeGroups, writeNumber, writeNumbers}
@@ -25,5 +27,5 @@ pub cost-of-B :
     × (costText (1 ∷ sheetB 14 (0 ∷ 0 ∷ 0 ∷ 0 ∷ 0 ∷ 2 ∷ 0 ∷ 0 ∷ 2 ∷ [])) ≡ 110 ∷ 111 ∷ 110 ∷ 101 ∷ 10 ∷ 56 ∷ 10 ∷ 49 ∷ 52 ∷ 10 ∷ [])
     × (costText (2 ∷ sheetB 8 (0 ∷ 0 ∷ 0 ∷ 0 ∷ 0 ∷ 0 ∷ 2 ∷ 0 ∷ 0 ∷ [])) ≡ 45 ∷ 54 ∷ 10 ∷ [])
     × (costText (2 ∷ sheetB 8 (0 ∷ 0 ∷ 0 ∷ 0 ∷ 0 ∷ 0 ∷ 0 ∷ 0 ∷ 0 ∷ [])) ≡ 45 ∷ 52 ∷ 10 ∷ [])
-unfolding sheetB member every keep add span after lastGroup above readGroups readNumber judged number several writeGroups writeNumber writeNumbers lesser within noArc tailOf headOf weightOf arcItem chain items len clear meets fit begin onward chains against leastOf least fits markOf isOpen isMandatory isForbidden allItems allArcs endsMandatory isForced isRequired required arcMinutes arcHead readArc readMark readMarks readArcs headerLimit headerTarget headerSource headerArcs readHeader readSheet complete taken slipNumbers slipBytes marksBytes greedy reasons fitsSheet unmet verdictFrom verdict isPruned newMark newMarks reasonsFor slipFor passSlip answerOf passOn prunes reasonIn reasonOn but digits decimal row line numberLine differenceLine lines lengthThrough noneLine slackLine lengthLine lengthOpened openedLine costLines costIn costFor costOn textOf costText
+unfolding sheetB member every keep add span after lastGroup above readGroups readNumber judged number several writeGroups writeNumber writeNumbers lesser within noArc tailOf headOf weightOf arcItem chain items len clear meets fit begin onward chains against leastOf least fits markOf isOpen isMandatory isForbidden allItems allArcs endsMandatory isForced isRequired required arcMinutes arcHead readArc readMark readMarks readArcs headerLimit headerTarget headerSource headerArcs readHeader readSheet restOf past leadOf lead content serviceOf servedArc served sheetOn noService readService someService readServices readPage complete page meant taken zeros slipNumbers slipBytes marksBytes greedy reasons fitsSheet unmet verdictFrom verdict isPruned newMark newMarks reasonsFor slipFor passSlip answerOf passOn prunes reasonIn reasonOn but digits decimal row line numberLine differenceLine lines lengthThrough noneLine slackLine lengthLine lengthOpened openedLine costLines costIn costFor costOn textOf costText
 cost-of-B = (refl, refl, refl, refl)

@@ -1,7 +1,9 @@
 // Runs the lines of document 01, 'The sheet B and what it gives', through pass, reason and check, and prints what each gives. The work and the slip
 // are lent longer than asked for and filled before the call, so that what is left as found can be seen. Then views of arcs, sheets that are written,
-// numbers with and without bytes behind them, and the store of request 2.6: slips that are put on it, and sheets that it is asked for.
+// numbers with and without bytes behind them, and the store of request 2.6: slips that are put on it, and sheets that it is asked for. The lines
+// with the service minutes of request 2.7 stand among those of the pass, the writer and the store.
 ghost use Prim.Native.Nat.{_≤_};
+ghost use lib.ListN.{length};
 use libc::STDOUT_FILENO;
 use sheet::Header;
 use sheet_reader::SheetRead;
@@ -300,6 +302,26 @@ fn bad_sheets() {
     );
 }
 
+// Sheets with a leading 1 that cannot be read: all service minutes are 0, one of them is missing, no place count follows; and a 1 that is badly written.
+fn bad_served() {
+    show_pass(
+        b"B with services 0 0 0 0",
+        b"\x01\x04\x05\x00\x03\x08\x00\x01\x04\x01\x03\x04\x00\x02\x03\x02\x03\x09\x01\x02\x01\x00\x00\x00\x00\x00\x00\x00\x00\x00\x00\x00\x00\x00",
+    );
+    show_pass(
+        b"The same without its last byte",
+        b"\x01\x04\x05\x00\x03\x08\x00\x01\x04\x01\x03\x04\x00\x02\x03\x02\x03\x09\x01\x02\x01\x00\x00\x00\x00\x00\x00\x00\x00\x00\x00\x00\x00",
+    );
+    show_pass(
+        b"The same and one byte more",
+        b"\x01\x04\x05\x00\x03\x08\x00\x01\x04\x01\x03\x04\x00\x02\x03\x02\x03\x09\x01\x02\x01\x00\x00\x00\x00\x00\x00\x00\x00\x00\x00\x00\x00\x00\x00",
+    );
+    show_pass(b"Sheet 01", b"\x01");
+    show_pass(b"Sheet 01 01", b"\x01\x01");
+    show_pass(b"Sheet 81 00", b"\x81\x00");
+    show_pass(b"Sheet 01 84 00", b"\x01\x84\x00");
+}
+
 // Sheets with a number that is too large, or too many counted items.
 fn large_sheets() {
     show_pass(
@@ -311,12 +333,16 @@ fn large_sheets() {
         b"\x04\x05\x00\x03\x08\x00\x01\x80\x80\x04\x01\x03\x04\x00\x02\x03\x02\x03\x09\x01\x02\x01\x00\x00\x00\x00\x00\x00\x00\x00\x00",
     );
     show_pass(
+        b"Service D9 04, K 12",
+        b"\x01\x04\x05\x00\x03\x0C\x00\x01\x04\x01\x03\x04\x00\x02\x03\x02\x03\x09\x01\x02\x01\x00\x00\x00\x00\x00\x00\x00\x00\x00\x00\xD9\x04\x00\x00",
+    );
+    show_pass(
         b"Nine counted places",
         b"\x0B\x00\x00\x0A\x08\x00\x01\x01\x01\x01\x01\x01\x01\x01\x01\x00",
     );
 }
 
-// Limits, minutes and counted items at their bounds.
+// Limits, minutes, service minutes and counted items at their bounds.
 fn bounds() {
     show_pass(
         b"Limit C0 84 3D",
@@ -326,6 +352,10 @@ fn bounds() {
         b"Minutes FF FF 03",
         b"\x04\x05\x00\x03\x08\x00\x01\xFF\xFF\x03\x01\x03\x04\x00\x02\x03\x02\x03\x09\x01\x02\x01\x00\x00\x00\x00\x00\x00\x00\x00\x00",
         b"\x01\x00\x00",
+    );
+    show_pass(
+        b"Service D8 04, K 12",
+        b"\x01\x04\x05\x00\x03\x0C\x00\x01\x04\x01\x03\x04\x00\x02\x03\x02\x03\x09\x01\x02\x01\x00\x00\x00\x00\x00\x00\x00\x00\x00\x00\xD8\x04\x00\x00",
     );
     show_checked(
         b"Eight counted places",
@@ -365,6 +395,41 @@ fn twin_legs() {
     show_pass(
         b"Nine must legs",
         b"\x02\x09\x00\x01\x63\x00\x01\x01\x00\x01\x01\x00\x01\x01\x00\x01\x01\x00\x01\x01\x00\x01\x01\x00\x01\x01\x00\x01\x01\x00\x01\x01\x00\x00\x01\x01\x01\x01\x01\x01\x01\x01\x01",
+    );
+}
+
+// Service minutes on B, at place 1: the round stands from K 10 on. The view of a leg has its minutes as they are written.
+fn served_rounds() {
+    show_checked(
+        b"B with service 2 at place 1",
+        b"\x01\x04\x05\x00\x03\x08\x00\x01\x04\x01\x03\x04\x00\x02\x03\x02\x03\x09\x01\x02\x01\x00\x00\x00\x00\x00\x00\x00\x00\x00\x00\x02\x00\x00",
+        b"\x01\x00\x00",
+    );
+    let longer =
+        b"\x01\x04\x05\x00\x03\x0A\x00\x01\x04\x01\x03\x04\x00\x02\x03\x02\x03\x09\x01\x02\x01\x00\x00\x00\x00\x00\x00\x00\x00\x00\x00\x02\x00\x00";
+    show_pass(b"The same, K 10", longer);
+    show_view(b"Leg 0 of it", longer, 0);
+}
+
+// Service minutes for each touch but a walk's first: at the start, to which the walk comes again, and at a place that it passes twice.
+fn served_touches() {
+    show_checked(
+        b"Service 2 at the start, place 2 must, K 3",
+        b"\x01\x03\x03\x00\x01\x03\x00\x01\x00\x00\x02\x01\x02\x00\x01\x00\x00\x01\x00\x00\x00\x02\x00\x00",
+        b"\x02\x01\x02\x00",
+    );
+    show_pass(
+        b"The same, K 4",
+        b"\x01\x03\x03\x00\x01\x04\x00\x01\x00\x00\x02\x01\x02\x00\x01\x00\x00\x01\x00\x00\x00\x02\x00\x00",
+    );
+    show_pass(
+        b"Service 2 at place 1, passed twice, places 1 and 2 must, K 8",
+        b"\x01\x04\x04\x00\x03\x08\x00\x01\x01\x01\x02\x01\x02\x01\x01\x01\x03\x01\x00\x01\x01\x00\x00\x00\x00\x00\x00\x02\x00\x00",
+    );
+    show_checked(
+        b"The same, K 7",
+        b"\x01\x04\x04\x00\x03\x07\x00\x01\x01\x01\x02\x01\x02\x01\x01\x01\x03\x01\x00\x01\x01\x00\x00\x00\x00\x00\x00\x02\x00\x00",
+        b"\x02\x01\x02\x00",
     );
 }
 
@@ -410,8 +475,9 @@ fn show_ring(name: &[u8], limit: u32, minutes: u32) {
     };
     let legs = ring_legs(minutes);
     let marks = ring_marks();
+    let services = [0u32; NODES];
     let mut sheet = [0u8; RING_BYTES];
-    let written = sheet_writer::write_sheet(header, &legs, &marks, &mut sheet);
+    let written = sheet_writer::write_sheet(header, &legs, &marks, &services, &mut sheet);
     let length = written.length;
     if length <= RING_BYTES {
         show_pass(name, &sheet[..length]);
@@ -484,27 +550,68 @@ fn show_written(sheet: &[u8], answer: Answer) {
 }
 
 // Prints a line: the name, and what the writer gives that is lent a slice of so many bytes. More bytes stand behind the slice.
-fn show_write(name: &[u8], header: Header, legs: &[u32], marks: &[u8], size: usize)
+fn show_write(
+    name: &[u8],
+    header: Header,
+    legs: &[u32],
+    marks: &[u8],
+    services: &[u32],
+    size: usize,
+)
     requires { ⌜ size ≤ 40 ⌝ }
 {
     io::write_all(STDOUT_FILENO, name);
     io::write_all(STDOUT_FILENO, b":");
     let mut sheet = [FILLED_BYTE; SHEET_LENT];
-    let answer = sheet_writer::write_sheet(header, legs, marks, &mut sheet[..size]);
+    let answer = sheet_writer::write_sheet(header, legs, marks, services, &mut sheet[..size]);
     show_written(&sheet, answer);
 }
 
-// Prints a line: the name, and what the reader stores of a sheet of 29 bytes, written again.
-fn show_again(name: &[u8], sheet: &[u8]) {
+// The minutes of a leg: its weight less the service minutes of its head. A weight that is less than these stays.
+fn minutes_of(weight: u32, head: u32, services: &[u32]) -> u32 {
+    let place = head as usize;
+    if place < services.len() {
+        let service = services[place];
+        if service <= weight {
+            return weight - service;
+        }
+    }
+    weight
+}
+
+// Makes the weights of legs minutes again; three numbers stand for each leg.
+fn give_back(legs: &mut [u32], services: &[u32]) {
+    let mut at: usize = 0;
+    while at + 2 < legs.len() {
+        let minutes = minutes_of(legs[at + 2], legs[at + 1], services);
+        legs[at + 2] = minutes;
+        at += 3;
+    }
+}
+
+// Prints a line: the name, and what the reader stores of a sheet, written again into a slice of the sheet's length.
+fn show_again(name: &[u8], sheet: &[u8])
+    requires { ⌜ length (now sheet) ≤ 40 ⌝ }
+{
     let mut legs = [0u32; ARC_NUMBERS];
     let mut marks = [0u8; ITEMS];
-    let header = match sheet_reader::read(sheet, &mut legs, &mut marks) {
+    let mut services = [0u32; NODES];
+    let header = match sheet_reader::read_page(sheet, &mut legs, &mut marks, &mut services) {
         SheetRead::Got(header) => header,
         SheetRead::Refused(_) => return,
     };
     let numbers = 3 * header.arcs;
     let items = header.nodes + header.arcs;
-    show_write(name, header, &legs[..numbers], &marks[..items], 29);
+    let nodes = header.nodes;
+    give_back(&mut legs, &services);
+    show_write(
+        name,
+        header,
+        &legs[..numbers],
+        &marks[..items],
+        &services[..nodes],
+        sheet.len(),
+    );
 }
 
 // The five numbers of B with another limit.
@@ -531,12 +638,21 @@ fn written_sheets() {
     );
     let legs = legs_of_b();
     let marks = [0u8; 9];
-    show_write(b"B written, slice of 29", header_of_b(8), &legs, &marks, 29);
+    let services = [0u32; 4];
+    show_write(
+        b"B written, slice of 29",
+        header_of_b(8),
+        &legs,
+        &marks,
+        &services,
+        29,
+    );
     show_write(
         b"K 1,000,000, slice of 31",
         header_of_b(1000000),
         &legs,
         &marks,
+        &services,
         31,
     );
     let two = Header {
@@ -546,19 +662,35 @@ fn written_sheets() {
         target: 0,
         limit: 0,
     };
-    show_write(b"Two places, slice of 7", two, &legs[..0], b"\x00\x02", 7);
+    show_write(
+        b"Two places, slice of 7",
+        two,
+        &legs[..0],
+        b"\x00\x02",
+        &services[..2],
+        7,
+    );
 }
 
 // Slices that are too short, and lists of another length than the header says.
 fn unwritten_sheets() {
     let legs = legs_of_b();
     let marks = [0u8; 9];
-    show_write(b"B written, slice of 28", header_of_b(8), &legs, &marks, 28);
+    let services = [0u32; 4];
+    show_write(
+        b"B written, slice of 28",
+        header_of_b(8),
+        &legs,
+        &marks,
+        &services,
+        28,
+    );
     show_write(
         b"K 1,000,000, slice of 29",
         header_of_b(1000000),
         &legs,
         &marks,
+        &services,
         29,
     );
     show_write(
@@ -566,6 +698,7 @@ fn unwritten_sheets() {
         header_of_b(1000001),
         &legs[..0],
         &marks,
+        &services,
         29,
     );
     let no_tail = [4u32, 1, 4, 1, 3, 4, 0, 2, 3, 2, 3, 9, 1, 2, 1];
@@ -574,6 +707,7 @@ fn unwritten_sheets() {
         header_of_b(8),
         &no_tail,
         &marks[..8],
+        &services,
         29,
     );
 }
@@ -581,12 +715,14 @@ fn unwritten_sheets() {
 // Legs that are judged one by one, and too many counted items.
 fn unwritten_legs() {
     let marks = [0u8; 9];
+    let services = [0u32; 11];
     let slow_first = [0u32, 1, 65536, 9, 3, 4, 0, 2, 3, 2, 3, 9, 1, 2, 1];
     show_write(
         b"Leg 0 of 65,536 minutes, leg 1 from 9",
         header_of_b(8),
         &slow_first,
         &marks,
+        &services[..4],
         29,
     );
     let no_tail = [9u32, 1, 65536, 1, 3, 4, 0, 2, 3, 2, 3, 9, 1, 2, 1];
@@ -595,6 +731,7 @@ fn unwritten_legs() {
         header_of_b(8),
         &no_tail,
         &marks,
+        &services[..4],
         29,
     );
     let row = Header {
@@ -659,7 +796,39 @@ fn unwritten_legs() {
         0,
         0,
     ];
-    show_write(b"Places 1 to 9 must, empty slice", row, &in_a_row, &must, 0);
+    show_write(
+        b"Places 1 to 9 must, empty slice",
+        row,
+        &in_a_row,
+        &must,
+        &services,
+        0,
+    );
+}
+
+// Prints a line: the name, and what the writer gives that is lent the numbers of B, services and a slice of so many bytes.
+fn show_services(name: &[u8], services: &[u32], size: usize)
+    requires { ⌜ size ≤ 40 ⌝ }
+{
+    let legs = legs_of_b();
+    let marks = [0u8; 9];
+    show_write(name, header_of_b(8), &legs, &marks, services, size);
+}
+
+// Service minutes: the form with them where one is not 0, and else the form without them; another count of them, and too many minutes.
+fn written_services() {
+    show_again(
+        b"Service 2 at place 1, read and written again",
+        b"\x01\x04\x05\x00\x03\x08\x00\x01\x04\x01\x03\x04\x00\x02\x03\x02\x03\x09\x01\x02\x01\x00\x00\x00\x00\x00\x00\x00\x00\x00\x00\x02\x00\x00",
+    );
+    let served = [0u32, 2, 0, 0];
+    let none = [0u32; 4];
+    let long = [0u32, 601, 0, 0];
+    show_services(b"Services 0 2 0 0, slice of 34", &served, 34);
+    show_services(b"Services 0 2 0 0, slice of 33", &served, 33);
+    show_services(b"Services 0 0 0 0, slice of 34", &none, 34);
+    show_services(b"Three services", &none[..3], 34);
+    show_services(b"Service of 601", &long, 34);
 }
 
 // Prints what the reader gives for the number at the front of the bytes.
@@ -747,6 +916,11 @@ fn is_same_store(one: Store, other: Store) -> bool {
     let a = one.legs;
     let b = other.legs;
     if !lists::same_numbers(&a, &b) {
+        return false;
+    }
+    let services = one.services;
+    let others = other.services;
+    if !lists::same_numbers(&services, &others) {
         return false;
     }
     if one.nodes != other.nodes || one.arcs != other.arcs || one.source != other.source {
@@ -861,8 +1035,9 @@ fn show_ask(store: Store, name: &[u8], sheet: &[u8]) {
 // Sheet B with another limit and other marks.
 fn sheet_of_b(limit: u32, marks: &[u8; 9]) -> [u8; 29] {
     let legs = legs_of_b();
+    let services = [0u32; 4];
     let mut sheet = [0u8; 29];
-    sheet_writer::write_sheet(header_of_b(limit), &legs, marks, &mut sheet);
+    sheet_writer::write_sheet(header_of_b(limit), &legs, marks, &services, &mut sheet);
     sheet
 }
 
@@ -954,6 +1129,31 @@ fn put_alike() {
     put_two(store, b"\x03\x01\x02\x00");
 }
 
+// Minutes and service minutes are compared, not their sums: sheets of the same weights with other service minutes are refused.
+fn ask_served() {
+    let store = show_put(
+        store::empty(),
+        b"B with service 2 at place 1",
+        b"\x01\x04\x05\x00\x03\x08\x00\x01\x04\x01\x03\x04\x00\x02\x03\x02\x03\x09\x01\x02\x01\x00\x00\x00\x00\x00\x00\x00\x00\x00\x00\x02\x00\x00",
+        b"\x01\x00\x00",
+    );
+    show_ask(
+        store,
+        b"K 7, service 2 at place 1",
+        b"\x01\x04\x05\x00\x03\x07\x00\x01\x04\x01\x03\x04\x00\x02\x03\x02\x03\x09\x01\x02\x01\x00\x00\x00\x00\x00\x00\x00\x00\x00\x00\x02\x00\x00",
+    );
+    show_ask(
+        store,
+        b"K 8, service 1 at place 1, leg 0 of 5 minutes",
+        b"\x01\x04\x05\x00\x03\x08\x00\x01\x05\x01\x03\x04\x00\x02\x03\x02\x03\x09\x01\x02\x01\x00\x00\x00\x00\x00\x00\x00\x00\x00\x00\x01\x00\x00",
+    );
+    show_ask(
+        store,
+        b"K 8, no services, leg 0 of 6 minutes",
+        b"\x04\x05\x00\x03\x08\x00\x01\x06\x01\x03\x04\x00\x02\x03\x02\x03\x09\x01\x02\x01\x00\x00\x00\x00\x00\x00\x00\x00\x00",
+    );
+}
+
 fn main() {
     starred_rounds();
     starred_refusals();
@@ -962,15 +1162,19 @@ fn main() {
     must_legs();
     twin_legs();
     longest_walks();
+    served_rounds();
+    served_touches();
     bad_sheets();
     large_sheets();
     bounds();
+    bad_served();
     show_short_slip();
     views();
     empty_views();
     written_sheets();
     unwritten_sheets();
     unwritten_legs();
+    written_services();
     numbers();
     overlong_numbers();
     unended_numbers();
@@ -980,4 +1184,5 @@ fn main() {
     ask_earliest();
     put_refused();
     put_alike();
+    ask_served();
 }

@@ -1,4 +1,4 @@
--- Where a walk of a taken sheet meets at most eight goals, some shortest one has at most 575 arcs and 37,682,625 minutes: no length that an operation asks
+-- Where a walk of a taken sheet meets at most eight goals, some shortest one has at most 575 arcs and 38,027,625 minutes: no length that an operation asks
 -- for needs more than 32 bits, and no sheet is refused for one. Assumes nothing.
 use Prim.Native.Nat.{ℕ, _≤_}
 use mathlib.Core.Path.{_≡_, refl}
@@ -27,7 +27,7 @@ module _ (bs : List ℕ) (S : Sheet) (e : taken bs ≡ got S []) where
       go none q L = absurd (L .lower w f)
       go (some k) q L =
           let g = taken-good bs S [] e in
-          let v = least-bound (S .graph) closed goals a b 65535 k (good-weight S g) (g .nodes) h q in
+          let v = least-bound (S .graph) closed goals a b 66135 k (good-weight S g) (g .nodes) h q in
           record {
             way = v .0 .0;
             fitting = v .0 .1;

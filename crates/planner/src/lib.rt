@@ -80,10 +80,11 @@ pub extern "C" fn ways_write(
     limit: u32,
     legs: &[u32],
     marks: &[u8],
+    services: &[u32],
     sheet: &mut [u8],
 ) -> u32
     ensures { λ r. let d = draftOf (record { nodes = n; arcs = m; source = start; target = finish; limit = limit })
-        (now (legs .entry)) (now (marks .entry)) in
+        (now (legs .entry)) (now (marks .entry)) (now (services .entry)) in
         ⌜ record { number = r; out = now (sheet .exit) } ≡ writtenNumber d (now (sheet .entry)) ⌝ }
 {
     let header = Header {
@@ -93,7 +94,7 @@ pub extern "C" fn ways_write(
         target: finish as usize,
         limit: limit,
     };
-    let answer = sheet_writer::write_sheet(header, legs, marks, sheet);
+    let answer = sheet_writer::write_sheet(header, legs, marks, services, sheet);
     work::one_number(answer.number, answer.length)
 }
 

@@ -15,7 +15,7 @@ use Rattle.reason_list.specs.Reasons.{but}
 use Rattle.lists.proofs.TestLaws.{false-back, and-true, not-true, true-or-false}
 use Rattle.lists.specs.Lists.{member}
 use Rattle.sheet.proofs.MarkLaws.{required-mandatory, is-open, is-mandatory, mandatory-mark, marked-item}
-use Rattle.sheet.proofs.SheetLaws.{good-mark, taken-good}
+use Rattle.sheet.proofs.SheetLaws.{good-mark, page-taken, taken-good}
 use Rattle.sheet.specs.Good.{Good}
 use Rattle.sheet.specs.Sheet.{Sheet, isMandatory, isForbidden, isOpen, markOf}
 use Rattle.sheet.specs.Slip.{Slip}
@@ -24,7 +24,8 @@ use Rattle.pass_rules.proofs.Demand2.{verdict-in, marks-exact, refuses-is, is-r
 use Rattle.pass_rules.proofs.MetLaws.{is-mandatory-item, all-fits}
 use Rattle.pass_rules.proofs.SlipOfPass.{pass-finishes}
 use Rattle.pass_rules.proofs.VerdictLaws.{Stands, stands-all, fits-fewer, refused-goals, pruned-mark, forbidden-stays}
-use Rattle.sheet.specs.Reader.{taken}
+use Rattle.sheet.specs.Page.{served, Page, sheetOn}
+use Rattle.sheet.specs.Reader.{page, taken}
 use Rattle.pass_rules.specs.Pass.{Refuses, EndsForbidden}
 use Rattle.pass_rules.specs.Route.{mandatory}
 use Rattle.pass_rules.specs.Verdict.{reasonsFor, fitsSheet, slipFor, verdict, isPruned, newMark, passSlip}
@@ -41,7 +42,7 @@ arc-eq x y p q r =
     ∙ ap {B = Arc} (λ (h : ℕ). record { tail = y .tail; head = h; weight = x .weight }) q
     ∙ ap {B = Arc} (λ (w : ℕ). record { tail = y .tail; head = y .head; weight = w }) r
 
-pub map-eq : (G H : Graph) → SameMap G H → H ≡ G
+map-eq : (G H : Graph) → SameMap G H → H ≡ G
 unfolding tailOf headOf weightOf
 map-eq G H e =
     let a : H .arcs ≡ G .arcs =
@@ -70,14 +71,38 @@ module _ (S : Sheet) (goals : List ℕ) where
   unfolding reasonsFor
   list-minimal r m = reasons-minimal (S .graph) (S .source) (S .target) (S .limit) goals (S .marks) r m
 
-same-count : (S T : Sheet) → SameMap (S .graph) (T .graph) → itemCount (T .graph) ≡ itemCount (S .graph)
-same-count S T e = ap itemCount (map-eq (S .graph) (T .graph) e)
+-- A later sheet by what both mean: a taken sheet with the same graph, source and target, every listed closure shut and no greater limit.
+pub record Follows (S : Sheet) (list : List ℕ) (sheet : List ℕ) (T : Sheet) : Type 0 where
+  pub took : taken sheet ≡ got T []
+  pub graph : T .graph ≡ S .graph
+  pub source : T .source ≡ S .source
+  pub target : T .target ≡ S .target
+  pub closed : (j : ℕ) → member j list ≡ true → isForbidden T j ≡ true
+  pub limit : T .limit ≤ S .limit
+
+-- the same map and the same service minutes make the same graph
+pub graph-on : (P Q : Page) → SameMap (P .says .graph) (Q .says .graph) → Q .services ≡ P .services → sheetOn Q .graph ≡ sheetOn P .graph
+unfolding sheetOn
+graph-on P Q e s =
+    ap {B = Graph} (λ (G : Graph). record { nodes = G .nodes; arcs = served (Q .services) (G .arcs) }) (map-eq (P .says .graph) (Q .says .graph) e)
+    ∙ ap {B = Graph} (λ (ss : List ℕ). record { nodes = P .says .graph .nodes; arcs = served ss (P .says .graph .arcs) }) s
+
+later-follows : (P Q : Page) (list sheet : List ℕ) → Later P list sheet Q → Follows (sheetOn P) list sheet (sheetOn Q)
+unfolding sheetOn isForbidden
+later-follows P Q list sheet L = record {
+  took = page-taken sheet Q (L .took);
+  graph = graph-on P Q (L .map) (L .services);
+  source = L .source;
+  target = L .target;
+  closed = L .closed;
+  limit = L .limit;
+}
 
 -- a list that blocks some goals blocks them on every later sheet
-pub blocks-later : (S : Sheet) (list goals sheet : List ℕ) (T : Sheet) → Blocks S list goals → Later S list sheet T → fitsSheet T goals ≡ false
+pub blocks-later : (S : Sheet) (list goals sheet : List ℕ) (T : Sheet) → Blocks S list goals → Follows S list sheet T → fitsSheet T goals ≡ false
 unfolding fitsSheet isForbidden
 blocks-later S list goals sheet T b L =
-    rw (map-eq (S .graph) (T .graph) (L .map), L .source, L .target)
+    rw (L .graph, L .source, L .target)
     (fits-anti (S .graph) (S .source) (S .target) (T .limit) (S .limit) (isForbidden T) (λ j. member j list) goals goals
     (λ j h o. false-back (member j list) (isForbidden T j) (L .closed j) o) (λ g m. m) (L .limit)
     (none-fits (S .graph) (S .source) (S .target) (S .limit) (λ j. member j list) goals b))
@@ -97,7 +122,7 @@ stands-meets T goals k z d = fits-fewer T (mandatory T) goals met (all-fits T (z
 
 -- Demand 3's step: a list that blocks some goals on a sheet, whatever they are, has the pass refuse every later sheet's round where these goals are
 -- demanded.
-pub blocks-again : (S : Sheet) (list goals later : List ℕ) (T : Sheet) → Blocks S list goals → Later S list later T
+pub blocks-again : (S : Sheet) (list goals later : List ℕ) (T : Sheet) → Blocks S list goals → Follows S list later T
     → ((g : ℕ) → member g goals ≡ true → Demanded T g) → (s : Slip) × Refuses later s
 blocks-again S list goals later T b L d = (
   slipFor T (verdict T .number) (verdict T .goals),
@@ -134,26 +159,33 @@ blocked-ends sheet T i a h b = go (true-or-false (eqb (verdict T .number) 0))
         })
     go (inr q) = inr (slipFor T (verdict T .number) (verdict T .goals), is-refused sheet T a (eqb-false (verdict T .number) 0 q))
 
-module _ (sheet : List ℕ) (S : Sheet) (a : taken sheet ≡ got S []) where
+module _ (sheet : List ℕ) (P : Page) (a : page sheet ≡ got P []) where
   -- Where an item was pruned, the pass on a later sheet ends with it shut or the round refused.
-  pub pruned-again : (i : ℕ) (s : Slip) → Explains sheet i s → (later : List ℕ) (T : Sheet) → Later S (s .reasons) later T
+  pub pruned-again : (i : ℕ) (s : Slip) → Explains sheet i s → (later : List ℕ) (Q : Page) → Later P (s .reasons) later Q
       → EndsForbidden later i ⊎ ((s′ : Slip) × Refuses later s′)
   unfolding slipFor
-  pruned-again i s x later T L =
-      let y = explained sheet S i s a x in
-      let L′ : Later S (reasonsFor S (i ∷ [])) later T = subst (λ (s : Slip). Later S (s .reasons) later T) (y .3) L in
-      blocked-ends later T i (L .took) (rw (same-count S T (L .map)) (y .0)) (blocks-later S (reasonsFor S (i ∷ [])) (i ∷ []) later T (list-valid S (i ∷ []) (pruned-unmet S i (y .2))) L′)
+  pruned-again i s x later Q L =
+      let S = sheetOn P in
+      let T = sheetOn Q in
+      let y = explained sheet S i s (page-taken sheet P a) x in
+      let F = later-follows P Q (s .reasons) later L in
+      let F′ : Follows S (reasonsFor S (i ∷ [])) later T = subst (λ (s : Slip). Follows S (s .reasons) later T) (y .3) F in
+      blocked-ends later T i (F .took) (subst (λ (G : Graph). i < itemCount G) (sym (F .graph)) (y .0))
+      (blocks-later S (reasonsFor S (i ∷ [])) (i ∷ []) later T (list-valid S (i ∷ []) (pruned-unmet S i (y .2))) F′)
 
   -- Where the round was refused, the pass refuses a later sheet's round too, if everything named is demanded there.
-  pub refused-again : (s : Slip) → Refuses sheet s → (later : List ℕ) (T : Sheet) → Later S (s .reasons) later T
-      → ((g : ℕ) → member g (s .goals) ≡ true → Demanded T g) → (s′ : Slip) × Refuses later s′
+  pub refused-again : (s : Slip) → Refuses sheet s → (later : List ℕ) (Q : Page) → Later P (s .reasons) later Q
+      → ((g : ℕ) → member g (s .goals) ≡ true → Demanded (sheetOn Q) g) → (s′ : Slip) × Refuses later s′
   unfolding slipFor
-  refused-again s r later T L d =
-      let y = refuses-is sheet S a s r in
-      let L′ : Later S (reasonsFor S (verdict S .goals)) later T = subst (λ (s : Slip). Later S (s .reasons) later T) (y .1) L in
+  refused-again s r later Q L d =
+      let S = sheetOn P in
+      let T = sheetOn Q in
+      let y = refuses-is sheet S (page-taken sheet P a) s r in
+      let F′ : Follows S (reasonsFor S (verdict S .goals)) later T = subst (λ (s : Slip). Follows S (s .reasons) later T) (y .1) (later-follows P Q (s .reasons) later L) in
       let d′ : (g : ℕ) → member g (verdict S .goals) ≡ true → Demanded T g = subst (λ (s : Slip). (g : ℕ) → member g (s .goals) ≡ true → Demanded T g) (y .1) d in
-      blocks-again S (reasonsFor S (verdict S .goals)) (verdict S .goals) later T (list-valid S (verdict S .goals) (refused-goals S (y .0))) L′ d′
+      blocks-again S (reasonsFor S (verdict S .goals)) (verdict S .goals) later T (list-valid S (verdict S .goals) (refused-goals S (y .0))) F′ d′
 
+module _ (sheet : List ℕ) (S : Sheet) (a : taken sheet ≡ got S []) where
   -- For every closure listed, once it and everything unlisted are open and only the other listed ones shut, some walk within the limit meets
   -- everything named: for a refused round,
   pub refused-minimal : (s : Slip) → Refuses sheet s → (r : ℕ) → member r (s .reasons) ≡ true

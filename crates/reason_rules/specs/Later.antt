@@ -1,4 +1,4 @@
--- The words of demand 3 (document 01, 'Reasons').
+-- The words of demand 3 (document 01, 'Reasons'; document 02, request 2.7).
 use Prim.Native.Nat.{ℕ, _≤_, _<_}
 use mathlib.Core.Path.{_≡_}
 use mathlib.Core.Logic.{_⊎_}
@@ -10,7 +10,8 @@ use Rattle.varint.specs.Varint.{got}
 use Rattle.walks.specs.Graph.{Graph, tailOf, headOf, weightOf}
 use Rattle.sheet.specs.Sheet.{Sheet, isMandatory, isForbidden, required}
 use Rattle.sheet.specs.Slip.{Slip, readSlip}
-use Rattle.sheet.specs.Reader.{taken}
+use Rattle.sheet.specs.Page.{Page}
+use Rattle.sheet.specs.Reader.{page}
 use Rattle.sheet.specs.Answer.{finished}
 use Rattle.reason_rules.specs.Reason.{reasonOn}
 
@@ -20,7 +21,7 @@ pub record Explains (sheet : List ℕ) (i : ℕ) (s : Slip) : Type 0 where
   pub finishes : reasonOn sheet i ≡ finished slip
   pub says : readSlip slip ≡ got s []
 
--- Two sheets have the same map: n, m and, arc number by arc number, tails, heads and minutes agree.
+-- Two graphs are one map: n, m and, arc number by arc number, tails, heads and weights agree; of what two sheets say, the weights are the minutes.
 pub record SameMap (G H : Graph) : Type 0 where
   pub nodes : H .nodes ≡ G .nodes
   pub count : length (H .arcs) ≡ length (G .arcs)
@@ -28,14 +29,16 @@ pub record SameMap (G H : Graph) : Type 0 where
   pub heads : (l : ℕ) → l < length (G .arcs) → headOf H l ≡ headOf G l
   pub weights : (l : ℕ) → l < length (G .arcs) → weightOf H l ≡ weightOf G l
 
--- A taken sheet with the same map, source and target, every listed closure shut and no greater limit, whatever else it marks.
-pub record Later (S : Sheet) (list : List ℕ) (sheet : List ℕ) (T : Sheet) : Type 0 where
-  pub took : taken sheet ≡ got T []
-  pub map : SameMap (S .graph) (T .graph)
-  pub source : T .source ≡ S .source
-  pub target : T .target ≡ S .target
-  pub closed : (j : ℕ) → member j list ≡ true → isForbidden T j ≡ true
-  pub limit : T .limit ≤ S .limit
+-- A taken sheet with the same map, service minutes, source and target, every listed closure shut and no greater limit, whatever else it marks. Minutes and
+-- service minutes are compared as they are written, so by pages.
+pub record Later (P : Page) (list : List ℕ) (sheet : List ℕ) (Q : Page) : Type 0 where
+  pub took : page sheet ≡ got Q []
+  pub map : SameMap (P .says .graph) (Q .says .graph)
+  pub services : Q .services ≡ P .services
+  pub source : Q .says .source ≡ P .says .source
+  pub target : Q .says .target ≡ P .says .target
+  pub closed : (j : ℕ) → member j list ≡ true → isForbidden (Q .says) j ≡ true
+  pub limit : Q .says .limit ≤ P .says .limit
 
 -- A goal is demanded on a sheet that has it as mandatory or as a required item.
 abbrev pub Demanded : Sheet → ℕ → Type 0

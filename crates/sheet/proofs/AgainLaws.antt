@@ -1,23 +1,28 @@
--- A sheet that was read is written again as the bytes that it was read from: stage by stage, each number by `number-again`. Several of a kind are for any
--- reader; arcs and marks are two uses of it. Assumes nothing.
+-- A sheet that was read is written again as the bytes that it was read from, in both forms: stage by stage, each number by `number-again`. Several of a kind
+-- are for any reader; arcs, marks and service minutes are uses of it. Assumes nothing.
 use Prim.Native.Nat.{ℕ, zero, suc, _+_}
-use mathlib.Core.Path.{_≡_, sym, ap, _∙_, subst}
+use mathlib.Core.Path.{_≡_, refl, sym, ap, _∙_, subst}
 use mathlib.Core.Bool.{Bool}
-use mathlib.Core.List.{List, [], _++_, append-assoc, append-nil}
+use mathlib.Core.List.{List, [], _∷_, _++_, append-assoc, append-nil}
+use native.Mathlib.Omega.{arith}
 use lib.ListN.{length}
 use Rattle.lists.proofs.Pigeonhole.{Below, below-append, below-parts}
 use Rattle.lists.proofs.RowLaws.{Rows, rows-append, just, just-rows}
 use Rattle.varint.proofs.AgainLaws.{number-again}
 use Rattle.varint.proofs.VarintLaws.{after-got, number-got, got-both, several-first}
 use Rattle.varint.proofs.WriteLaws.{numbers-rows}
-use Rattle.varint.specs.Varint.{Read, got, after, number, several, writeNumber, writeNumbers}
+use Rattle.varint.specs.Varint.{Read, got, after, number, several, writeGroups, writeNumber, writeNumbers}
 use Rattle.walks.specs.Graph.{Arc}
 use Rattle.walks.specs.Flat.{flat}
 use Rattle.sheet.proofs.BackLaws.{arcNumbers, flat-rows}
-use Rattle.sheet.proofs.SheetLaws.{several-got}
+use Rattle.sheet.proofs.LeadLaws.{Led, plain, led, led-is}
+use Rattle.sheet.proofs.PageLaws.{zeros-none}
+use Rattle.sheet.proofs.SheetLaws.{several-got, some-got}
 use Rattle.sheet.specs.declared.Header.{Header}
-use Rattle.sheet.specs.Draft.{headerNumbers, sheetNumbers}
-use Rattle.sheet.specs.Reader.{isNodeCount, isArcCount, isNode, isOther, isLimit, isMinutes, isMark, headerLimit, headerTarget, headerSource, headerArcs, readHeader, arcMinutes, arcHead, readArc, readMark, readMarks, readArcs, readSheet}
+use Rattle.sheet.specs.Draft.{headerNumbers, sheetNumbers, withServices, pageNumbers}
+use Rattle.sheet.specs.Lent.{zeros}
+use Rattle.sheet.specs.Page.{Page}
+use Rattle.sheet.specs.Reader.{isNodeCount, isArcCount, isNode, isOther, isLimit, isMinutes, isMark, isService, headerLimit, headerTarget, headerSource, headerArcs, readHeader, arcMinutes, arcHead, readArc, readMark, readMarks, readArcs, readSheet, readService, someService, readServices, readPage}
 use Rattle.sheet.specs.Sheet.{Sheet, headerOf}
 
 -- xs are the numbers at the front of the bytes bs, and `rest` is what is behind them
@@ -111,3 +116,36 @@ sheet-again bs S rest B e =
     let m : length xs ≡ h .arcs = several-got (λ x. Unit {0}) (readArc n) (λ bs a rest q. tt) (h .arcs) (a .1) xs (f .1) (f .2) .0 in
     let w : Numbers (headerNumbers h ++ (flat xs ++ g .0)) bs rest = join (a .3) (join (f .3) (subst (Numbers (g .0) (f .1)) (z .1) (g .3))) in
     subst (λ (ns : List ℕ). Numbers ns bs rest) (made-numbers h xs (g .0) m ∙ ap sheetNumbers (z .0)) w
+
+-- a page that was read: its content alone
+plain-again : (bs : List ℕ) (P : Page) (rest : List ℕ) → Below 256 bs → after (readSheet bs) (readServices 0) ≡ got P rest → Numbers (pageNumbers P) bs rest
+unfolding readServices pageNumbers
+plain-again bs P rest B e =
+    let a = after-again readSheet sheetNumbers (readServices 0) sheet-again bs P rest B e in
+    let Z : Page = record { says = a .0; services = zeros (a .0 .graph .nodes) } in
+    let z = got-both Z P (a .1) rest (a .4) in
+    subst (λ (P : Page). Numbers (pageNumbers P) bs rest) (z .0)
+    (rw (zeros-none (a .0 .graph .nodes)) (subst (Numbers (sheetNumbers (a .0)) bs) (z .1) (a .3)))
+
+-- or behind the 1, with the service minutes
+led-again : (cs : List ℕ) (P : Page) (rest : List ℕ) → Below 256 cs → after (readSheet cs) (readServices 1) ≡ got P rest → Numbers (pageNumbers P) (1 ∷ cs) rest
+unfolding readServices readService pageNumbers withServices writeNumbers writeNumber writeGroups
+led-again cs P rest B e =
+    let a = after-again readSheet sheetNumbers (readServices 1) sheet-again cs P rest B e in
+    let S = a .0 in
+    let n = S .graph .nodes in
+    let services : Again (several readService n) (λ (ss : List ℕ). ss) = several-again readService just (λ (ss : List ℕ). ss) just-rows (judged-again 11 isService) n in
+    let b = after-again (several readService n) (λ (ss : List ℕ). ss) (someService S) services (a .1) P rest (a .3 .below) (a .4) in
+    let z = some-got S (b .0) (b .1) P rest (b .4) in
+    let one : Numbers (just 1) (1 ∷ cs) cs = record { bytes = refl; small = (omega arith, tt); below = B } in
+    subst (λ (P : Page). Numbers (pageNumbers P) (1 ∷ cs) rest) (z .1)
+    (rw (z .0) (join one (join (a .3) (subst (Numbers (b .0) (a .1)) (z .2) (b .3)))))
+
+pub page-again : (bs : List ℕ) (P : Page) (rest : List ℕ) → Below 256 bs → readPage bs ≡ got P rest → Numbers (pageNumbers P) bs rest
+unfolding readPage
+page-again bs P rest B e = go (led-is bs)
+  where
+    go : Led bs → Numbers (pageNumbers P) bs rest
+    go (plain l c) = plain-again bs P rest B (rw (l, c) at e)
+    go (led cs q l c) =
+        rw q (led-again cs P rest (below-parts 256 (just 1) cs (subst (Below 256) q B) .1) (rw (l, c) at e))

@@ -14,10 +14,12 @@ use borrow.Author.Tests.{lt-ltb, le-ltb, ltb-true, ltb-false}
 use Rattle.varint.proofs.VarintLaws.{Front, number-got, judged-front, after-front, after-got, number-front, got-both, several-first}
 use Rattle.varint.specs.Varint.{Read, got, after, readNumber, number, several, readGroups, refuse}
 use Rattle.walks.specs.Graph.{Graph, Arc, noArc}
-use Rattle.sheet.proofs.SheetLaws.{Taken, several-got, got-taken, taken-got}
-use Rattle.sheet.specs.ArcView.{restOf, past, bytesOf, forArc, arcView, placeOf}
+use Rattle.sheet.proofs.PageLaws.{count-on}
+use Rattle.sheet.proofs.SheetLaws.{several-got, content-says, page-got, page-of, page-taken}
+use Rattle.sheet.specs.ArcView.{bytesOf, forArc, arcView, placeOf}
 use Rattle.sheet.specs.declared.Header.{Header}
-use Rattle.sheet.specs.Reader.{isNodeCount, isArcCount, isNode, isOther, isLimit, isMinutes, headerLimit, headerTarget, headerSource, headerArcs, readHeader, arcMinutes, arcHead, readArc, readMark, readMarks, readArcs, readSheet, taken}
+use Rattle.sheet.specs.Reader.{isNodeCount, isArcCount, isNode, isOther, isLimit, isMinutes, headerLimit, headerTarget, headerSource, headerArcs, readHeader, arcMinutes, arcHead, readArc, readMark, readMarks, readArcs, readSheet, restOf, past, lead, content, page, taken}
+use Rattle.sheet.specs.Page.{Page, sheetOn}
 use Rattle.sheet.specs.Sheet.{Sheet}
 
 -- after one number
@@ -100,13 +102,13 @@ section bs S rest e =
     let p : past 5 bs ≡ a .1 = header-past bs h (a .1) (a .2) in
     (f .1, subst (λ (G : Graph). several (readArc (G .nodes)) (length (G .arcs)) (past 5 bs) ≡ got (G .arcs) (f .1)) z (rw (p, w) (f .2)))
 
--- what a view of a taken sheet shows
-pub record Viewed (bs : List ℕ) (S : Sheet) (l : ℕ) : Type 0 where
+-- what a view of a taken sheet shows: the arc's three numbers as they are written
+pub record Viewed (bs : List ℕ) (P : Page) (l : ℕ) : Type 0 where
   pub earlier : List ℕ
   pub later : List ℕ
   pub part : bs ≡ earlier ++ (arcView bs l ++ later)
   pub place : length earlier ≡ placeOf bs l
-  pub reads : readArc (S .graph .nodes) (arcView bs l) ≡ got (getD (S .graph .arcs) l noArc) []
+  pub reads : readArc (P .says .graph .nodes) (arcView bs l) ≡ got (getD (P .says .graph .arcs) l noArc) []
 
 -- what k numbers leave is the end of the list
 past-end : (k : ℕ) (bs : List ℕ) → (e : List ℕ) × (bs ≡ e ++ past k bs)
@@ -131,9 +133,11 @@ front-bytes n bs x rest p =
     let c : length bs - length rest ≡ length (p .front .bytes) = omega (arith, simp length-append at (ap length e)) in
     rw (p .ends, c) (ap (take (length (p .front .bytes))) e ∙ take-at (p .front .bytes) rest (length (p .front .bytes)) refl)
 
-has-arc : {A : Type 0} (bs : List ℕ) (S : Sheet) (l : ℕ) (x y : A) → taken bs ≡ got S [] → l < length (S .graph .arcs) → forArc (taken bs) l x y ≡ x
+has-arc : {A : Type 0} (bs : List ℕ) (P : Page) (l : ℕ) (x y : A) → page bs ≡ got P [] → l < length (P .says .graph .arcs) → forArc (taken bs) l x y ≡ x
 unfolding forArc
-has-arc bs S l x y e h = rw (e, lt-ltb l (length (S .graph .arcs)) h)
+has-arc bs P l x y e h =
+    let k : l < length (sheetOn P .graph .arcs) = rw (count-on P) h in
+    rw (page-taken bs P e, lt-ltb l (length (sheetOn P .graph .arcs)) k)
 
 -- no arc is read from nothing
 nothing : (n : ℕ) (x : Arc) → readArc n [] ≡ got x [] → ⊥
@@ -141,36 +145,46 @@ unfolding readArc number readNumber readGroups after
 nothing n x e = let z : _≡_ {A = ℕ} 0 1 = cc in omega arith
 
 -- the view of an arc of a taken sheet is a part of the sheet, and reads as the arc's three numbers
-pub view-reads : (bs : List ℕ) (S : Sheet) (l : ℕ) → Taken bs S → l < length (S .graph .arcs) → Viewed bs S l
-unfolding arcView placeOf
-view-reads bs S l T h =
-    let n = S .graph .nodes in
-    let x = getD (S .graph .arcs) l noArc in
-    let s = section bs S [] (T .whole) in
-    let here = past (5 + 3 * l) bs in
-    let u : past (3 * l) (past 5 bs) ≡ here = sym (past-add 5 (3 * l) bs) in
-    let q : readArc n here ≡ got x (past (3 + 3 * l) (past 5 bs)) = ap (readArc n) (sym u) ∙ arc-at n (length (S .graph .arcs)) l (past 5 bs) (S .graph .arcs) (s .0) h (s .1) in
-    let p = arc-parts n here x (past (3 + 3 * l) (past 5 bs)) q in
-    let v : arcView bs l ≡ p .front .bytes = has-arc bs S l (bytesOf 3 here) [] (got-taken bs S T) h ∙ front-bytes n here x (past (3 + 3 * l) (past 5 bs)) p in
-    let e = past-end (5 + 3 * l) bs in
-    let k : length (e .0) ≡ length bs - length here = omega (arith, simp length-append at (ap length (e .1))) in
+pub view-reads : (bs : List ℕ) (P : Page) (l : ℕ) → page bs ≡ got P [] → l < length (P .says .graph .arcs) → Viewed bs P l
+unfolding arcView placeOf content
+view-reads bs P l t h =
+    let n = P .says .graph .nodes in
+    let xs = P .says .graph .arcs in
+    let x = getD xs l noArc in
+    let cs = content bs in
+    let c = content-says bs P [] (page-got bs P [] t .0 .whole) in
+    let s = section cs (P .says) (c .0) (c .1) in
+    let here = past (5 + 3 * l) cs in
+    let behind = past (3 + 3 * l) (past 5 cs) in
+    let u : past (3 * l) (past 5 cs) ≡ here = sym (past-add 5 (3 * l) cs) in
+    let q : readArc n here ≡ got x behind = ap (readArc n) (sym u) ∙ arc-at n (length xs) l (past 5 cs) xs (s .0) h (s .1) in
+    let p = arc-parts n here x behind q in
+    let v : arcView bs l ≡ p .front .bytes = has-arc bs P l (bytesOf 3 here) [] t h ∙ front-bytes n here x behind p in
+    let e = past-end (lead bs + (5 + 3 * l)) bs in
+    let w : bs ≡ e .0 ++ here = e .1 ∙ ap (e .0 ++_) (past-add (lead bs) (5 + 3 * l) bs) in
+    let k : length (e .0) ≡ length bs - length here = omega (arith, simp length-append at (ap length w)) in
     record {
       earlier = e .0;
-      later = past (3 + 3 * l) (past 5 bs);
-      part = e .1 ∙ ap (e .0 ++_) (p .front .parts ∙ ap (_++ past (3 + 3 * l) (past 5 bs)) (sym v));
-      place = k ∙ sym (has-arc bs S l (length bs - length here) 0 (got-taken bs S T) h);
+      later = behind;
+      part = w ∙ ap (e .0 ++_) (p .front .parts ∙ ap (_++ behind) (sym v));
+      place = k ∙ sym (has-arc bs P l (length bs - length here) 0 t h);
       reads = ap (readArc n) (v ∙ sym (append-nil (p .front .bytes))) ∙ p .front .again [];
     }
 
 -- empty exactly when the sheet draws 3 to 13 or there is no such arc
-pub view-empty : (bs : List ℕ) (l : ℕ) → (arcView bs l ≡ []) ↔ ((S : Sheet) → Taken bs S → length (S .graph .arcs) ≤ l)
+pub view-empty : (bs : List ℕ) (l : ℕ) → (arcView bs l ≡ []) ↔ ((P : Page) → page bs ≡ got P [] → length (P .says .graph .arcs) ≤ l)
 unfolding arcView forArc
-view-empty bs l = (λ e S T. forth e S T (ltb l (length (S .graph .arcs))) refl, λ h. back (taken bs) refl h)
+view-empty bs l = (λ e P t. forth e P t (ltb l (length (P .says .graph .arcs))) refl, λ h. back (taken bs) refl h)
   where
-    forth : arcView bs l ≡ [] → (S : Sheet) → Taken bs S → (t : Bool) → ltb l (length (S .graph .arcs)) ≡ t → length (S .graph .arcs) ≤ l
-    forth e S T true q = absurd (nothing (S .graph .nodes) (getD (S .graph .arcs) l noArc) (rw e at (view-reads bs S l T (ltb-true l (length (S .graph .arcs)) q) .reads)))
-    forth e S T false q = ltb-false l (length (S .graph .arcs)) q
+    forth : arcView bs l ≡ [] → (P : Page) → page bs ≡ got P [] → (t : Bool) → ltb l (length (P .says .graph .arcs)) ≡ t → length (P .says .graph .arcs) ≤ l
+    forth e P t true q =
+        absurd (nothing (P .says .graph .nodes) (getD (P .says .graph .arcs) l noArc) (rw e at (view-reads bs P l t (ltb-true l (length (P .says .graph .arcs)) q) .reads)))
+    forth e P t false q = ltb-false l (length (P .says .graph .arcs)) q
 
-    back : (r : Read Sheet) → taken bs ≡ r → ((S : Sheet) → Taken bs S → length (S .graph .arcs) ≤ l) → forArc r l (bytesOf 3 (past (5 + 3 * l) bs)) [] ≡ []
+    back : (r : Read Sheet) → taken bs ≡ r → ((P : Page) → page bs ≡ got P [] → length (P .says .graph .arcs) ≤ l)
+        → forArc r l (bytesOf 3 (past (5 + 3 * l) (content bs))) [] ≡ []
     back (refuse e) q h = refl
-    back (got S rest) q h = rw (le-ltb l (length (S .graph .arcs)) (h S (taken-got bs S rest q .0)))
+    back (got S rest) q h =
+        let p = page-of bs S rest q in
+        let k : length (S .graph .arcs) ≤ l = subst (λ (S : Sheet). length (S .graph .arcs) ≤ l) (p .2) (rw (count-on (p .0)) (h (p .0) (p .1))) in
+        rw (le-ltb l (length (S .graph .arcs)) k)

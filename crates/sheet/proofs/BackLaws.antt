@@ -1,9 +1,9 @@
 -- What is written reads back, judged: given the numbers of a value in shortest form, its reader gives the value, or refuses with its first fault. Number
--- by number (`number-back`), and then for several of a kind, for any reader; arcs and marks are two uses of it. Assumes nothing.
+-- by number (`number-back`), and then for several of a kind, for any reader; arcs, marks and service minutes are uses of it. Assumes nothing.
 use Prim.Native.Nat.{ℕ, zero, suc, _*_, _<_}
 use mathlib.Core.Path.{_≡_, refl, ap, _∙_}
 use mathlib.Core.Bool.{Bool, true, false}
-use mathlib.Core.List.{List, [], _∷_, _++_, append-assoc, append-nil}
+use mathlib.Core.List.{List, [], _∷_, _++_, append-assoc}
 use lib.ListN.{length}
 use Rattle.lists.specs.Lists.{pick}
 use Rattle.lists.proofs.Pigeonhole.{Below, below-parts}
@@ -13,9 +13,9 @@ use Rattle.varint.specs.Varint.{Read, got, refuse, after, judged, number, sever
 use Rattle.walks.specs.Graph.{Arc}
 use Rattle.walks.proofs.FlatLaws.{flat-arcs, arcs-many}
 use Rattle.walks.specs.Flat.{arcsOf, flat}
-use Rattle.sheet.specs.Reader.{isNodeCount, isArcCount, isNode, isOther, isLimit, isMinutes, isMark, headerLimit, headerTarget, headerSource, headerArcs, readHeader, arcMinutes, arcHead, readArc, readMark}
+use Rattle.sheet.specs.Reader.{isNodeCount, isArcCount, isNode, isOther, isLimit, isMinutes, headerLimit, headerTarget, headerSource, headerArcs, readHeader, arcMinutes, arcHead, readArc}
 use Rattle.sheet.specs.Draft.{headerNumbers}
-use Rattle.sheet.specs.Writer.{fault, firstOf, headerFault, arcFault, arcsFault, marksFault}
+use Rattle.sheet.specs.Writer.{fault, firstOf, headerFault, arcFault, arcsFault, eachFault}
 
 -- what a fault makes of a reading: 0 leaves it as it is
 unfoldable pub faulted : {A : Type 0} → ℕ → Read A → Read A
@@ -111,10 +111,10 @@ arcs-faults n (t ∷ []) = refl
 arcs-faults n (t ∷ h ∷ []) = refl
 arcs-faults n (t ∷ h ∷ w ∷ xs) = ap (firstOf (arcFault n t h w)) (arcs-faults n xs)
 
-marks-faults : (xs : List ℕ) → faults (λ x. fault 11 (isMark x)) xs ≡ marksFault xs
-unfolding faults marksFault
-marks-faults [] = refl
-marks-faults (x ∷ xs) = ap (firstOf (fault 11 (isMark x))) (marks-faults xs)
+each-faults : (ok : ℕ → Bool) (xs : List ℕ) → faults (λ x. fault 11 (ok x)) xs ≡ eachFault ok xs
+unfolding faults eachFault
+each-faults ok [] = refl
+each-faults ok (x ∷ xs) = ap (firstOf (fault 11 (ok x))) (each-faults ok xs)
 
 pub arcs-back : (n m : ℕ) (xs t : List ℕ) → length xs ≡ 3 * m → Below 268435456 xs
     → several (readArc n) m (writeNumbers (xs ++ t)) ≡ faulted (arcsFault n xs) (got (arcsOf xs) (writeNumbers t))
@@ -122,6 +122,7 @@ arcs-back n m xs t e B =
     let f : flat (arcsOf xs) ≡ xs = flat-arcs xs m e in
     rw (arcs-many xs m e, f, arcs-faults n xs) at (several-back (readArc n) arcNumbers _ flat (arc-back n) flat-rows (arcsOf xs) t (rw f B))
 
-pub marks-back : (xs : List ℕ) → Below 268435456 xs → several readMark (length xs) (writeNumbers xs) ≡ faulted (marksFault xs) (got xs [])
-unfolding readMark writeNumbers
-marks-back xs B = rw (append-nil, marks-faults xs) at (several-back readMark just _ (λ (xs : List ℕ). xs) (number-judged 10 isMark) just-rows xs [] B)
+-- numbers that are judged one by one: the marks, and the service minutes
+pub each-back : (ok : ℕ → Bool) (xs t : List ℕ) → Below 268435456 xs
+    → several (number 11 ok) (length xs) (writeNumbers (xs ++ t)) ≡ faulted (eachFault ok xs) (got xs (writeNumbers t))
+each-back ok xs t B = rw (each-faults ok xs) at (several-back (number 11 ok) just _ (λ (xs : List ℕ). xs) (number-judged 10 ok) just-rows xs t B)

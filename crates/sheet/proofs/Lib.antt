@@ -1,4 +1,7 @@
+pub mod LeadLaws
+pub mod PageLaws
 pub mod SheetLaws
+pub mod OldLaws
 pub mod MarkLaws
 pub mod SlipLaws
 pub mod ArcViewLaws

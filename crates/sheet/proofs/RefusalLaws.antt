@@ -13,7 +13,8 @@ use Rattle.lists.proofs.TestLaws.{and-true, pick-either}
 use Rattle.lists.specs.Lists.{member, every}
 use Rattle.varint.specs.Varint.{Read, got, refuse, after, lastGroup, above, readGroups, readNumber, judged, number, several}
 use Rattle.sheet.specs.declared.Header.{Header}
-use Rattle.sheet.specs.Reader.{isNodeCount, isArcCount, isNode, isOther, isLimit, isMinutes, isMark, headerLimit, headerTarget, headerSource, headerArcs, readHeader, arcMinutes, arcHead, readArc, readMark, readMarks, readArcs, readSheet, complete, taken}
+use Rattle.sheet.specs.Reader.{isNodeCount, isArcCount, isNode, isOther, isLimit, isMinutes, isMark, isService, headerLimit, headerTarget, headerSource, headerArcs, readHeader, arcMinutes, arcHead, readArc, readMark, readMarks, readArcs, readSheet, lead, content, readService, someService, readServices, readPage, complete, page, meant, taken}
+use Rattle.sheet.specs.Page.{Page, sheetOn, noService}
 use Rattle.sheet.specs.Sheet.{Sheet, required}
 
 -- the refusals of a sheet
@@ -109,14 +110,31 @@ sheet-refusing : (bs : List ℕ) → Refusing Among (readSheet bs)
 unfolding readSheet
 sheet-refusing bs = after-refusing Among (readHeader bs) readArcs (header-refusing bs) arcs-refusing
 
-complete-refusing : (S : Sheet) (bs : List ℕ) → Refusing Among (complete S bs)
+services-refusing : (k : ℕ) (S : Sheet) (bs : List ℕ) → Refusing Among (readServices k S bs)
+unfolding readServices readService someService
+services-refusing zero S bs = tt
+services-refusing (suc k) S bs =
+    after-refusing Among (several readService (S .graph .nodes) bs) (someService S)
+    (several-refusing readService (λ bs. number-refusing 11 isService bs (omega arith, omega arith)) (S .graph .nodes) bs)
+    (λ ss rest. pick-either (Refusing Among) (noService ss) (refuse 11) (got (record { says = S; services = ss }) rest) (omega arith, omega arith) tt)
+
+complete-refusing : (P : Page) (bs : List ℕ) → Refusing Among (complete P bs)
 unfolding complete
-complete-refusing S (b ∷ bs) = (omega arith, omega arith)
-complete-refusing S [] = pick-either (Refusing Among) (leb (length (required S)) 8) (got S []) (refuse 13) tt (omega arith, omega arith)
+complete-refusing P (b ∷ bs) = (omega arith, omega arith)
+complete-refusing P [] = pick-either (Refusing Among) (leb (length (required (sheetOn P))) 8) (got P []) (refuse 13) tt (omega arith, omega arith)
+
+page-refusing : (bs : List ℕ) → Refusing Among (page bs)
+unfolding page readPage
+page-refusing bs =
+    after-refusing Among (readPage bs) complete
+    (after-refusing Among (readSheet (content bs)) (readServices (lead bs)) (sheet-refusing (content bs)) (services-refusing (lead bs))) complete-refusing
 
 taken-refusing : (bs : List ℕ) → Refusing Among (taken bs)
-unfolding taken
-taken-refusing bs = after-refusing Among (readSheet bs) complete (sheet-refusing bs) complete-refusing
+unfolding taken meant
+taken-refusing bs = after-refusing Among (page bs) meant (page-refusing bs) (λ P rest. tt)
+
+pub page-refusing-these : (own bs : List ℕ) → Refusing (AmongThese own) (page bs)
+page-refusing-these own bs = refusing-more Among (AmongThese own) (page bs) (λ w p. inl p) (page-refusing bs)
 
 pub taken-refusing-these : (own bs : List ℕ) → Refusing (AmongThese own) (taken bs)
 taken-refusing-these own bs = refusing-more Among (AmongThese own) (taken bs) (λ w p. inl p) (taken-refusing bs)

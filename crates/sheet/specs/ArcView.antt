@@ -1,21 +1,12 @@
 -- Arc view (document 01: leg view): the part of a sheet that holds an arc's three numbers, and where it stands.
-use Prim.Native.Nat.{ℕ, zero, suc, _+_, _-_, _*_}
+use Prim.Native.Nat.{ℕ, _+_, _-_, _*_}
 use mathlib.Core.List.{List, []}
 use lib.ListN.{length, take}
 use lib.Dec.{ltb}
 use Rattle.lists.specs.Lists.{pick}
-use Rattle.varint.specs.Varint.{Read, got, refuse, readNumber}
+use Rattle.varint.specs.Varint.{Read, got, refuse}
 use Rattle.sheet.specs.Sheet.{Sheet}
-use Rattle.sheet.specs.Reader.{taken}
-
--- the bytes after a number, and after k numbers
-unfoldable pub restOf : Read ℕ → List ℕ
-restOf (got x bs) = bs
-restOf (refuse e) = []
-
-unfoldable pub past : ℕ → List ℕ → List ℕ
-past zero bs = bs
-past (suc k) bs = past k (restOf (readNumber bs))
+use Rattle.sheet.specs.Reader.{past, content, taken}
 
 -- the bytes of the first k numbers
 unfoldable pub bytesOf : ℕ → List ℕ → List ℕ
@@ -26,10 +17,10 @@ unfoldable pub forArc : {A : Type 0} → Read Sheet → ℕ → A → A → A
 forArc (got S rest) l x y = pick (ltb l (length (S .graph .arcs))) x y
 forArc (refuse e) l x y = y
 
--- the bytes of arc l's three numbers: five numbers and three for each earlier arc stand before them
+-- the bytes of arc l's three numbers: five numbers and three for each earlier arc stand before them in the content
 unfoldable pub arcView : List ℕ → ℕ → List ℕ
-arcView bs l = forArc (taken bs) l (bytesOf 3 (past (5 + 3 * l) bs)) []
+arcView bs l = forArc (taken bs) l (bytesOf 3 (past (5 + 3 * l) (content bs))) []
 
 -- how many bytes of the sheet stand before them; an empty view stands at the sheet's front
 unfoldable pub placeOf : List ℕ → ℕ → ℕ
-placeOf bs l = forArc (taken bs) l (length bs - length (past (5 + 3 * l) bs)) 0
+placeOf bs l = forArc (taken bs) l (length bs - length (past (5 + 3 * l) (content bs))) 0

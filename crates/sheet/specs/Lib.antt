@@ -1,4 +1,5 @@
 pub mod Sheet
+pub mod Page
 pub mod Good
 pub mod Reader
 pub mod ArcView

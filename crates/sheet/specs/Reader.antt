@@ -1,14 +1,16 @@
--- A sheet's bytes: what they say, or the number of the first fault (document 01, 'Sheet and slip' and refusals 3 to 13). Each number is judged as it
--- is read; each step reads one part and hands what was read so far to the next.
-use Prim.Native.Nat.{ℕ, _+_}
+-- A sheet's bytes: what they say and mean, or the number of the first fault (document 01, 'Sheet and slip' and refusals 3 to 13; document 02, request 2.7).
+-- Each number is judged as it is read; each step reads one part and hands what was read so far to the next.
+use Prim.Native.Nat.{ℕ, zero, suc, _+_}
 use mathlib.Core.Bool.{Bool, not, _&&_}
 use mathlib.Core.List.{List, [], _∷_}
 use lib.ListN.{length}
 use lib.Dec.{eqb, ltb, leb}
 use Rattle.lists.specs.Lists.{pick}
-use Rattle.varint.specs.Varint.{Read, got, refuse, after, number, several}
+use Rattle.varint.specs.Varint.{Read, got, refuse, after, readNumber, number, several}
 use Rattle.walks.specs.Graph.{Arc}
 use Rattle.sheet.specs.declared.Header.{Header}
+use Rattle.sheet.specs.Lent.{zeros}
+use Rattle.sheet.specs.Page.{Page, sheetOn, noService}
 use Rattle.sheet.specs.Sheet.{Sheet, required}
 
 -- What each number is judged by.
@@ -39,6 +41,10 @@ isMinutes x = leb x 65535
 -- a mark: open, mandatory, forbidden
 abbrev pub isMark : ℕ → Bool
 isMark x = leb x 2
+
+-- the service minutes of a node: at most 600
+abbrev pub isService : ℕ → Bool
+isService x = leb x 600
 
 -- the five numbers in front (5 to 8)
 unfoldable pub headerLimit : ℕ → ℕ → ℕ → ℕ → List ℕ → Read Header
@@ -80,14 +86,59 @@ readMarks h xs bs =
 unfoldable pub readArcs : Header → List ℕ → Read Sheet
 readArcs h bs = after (several (readArc (h .nodes)) (h .arcs) bs) (readMarks h)
 
+-- the content of a sheet, which is all of it in the form without service minutes
 unfoldable pub readSheet : List ℕ → Read Sheet
 readSheet bs = after (readHeader bs) readArcs
 
--- no bytes may remain (12), and at most eight items may be required (13)
-unfoldable pub complete : Sheet → List ℕ → Read Sheet
-complete S (b ∷ bs) = refuse 12
-complete S [] = pick (leb (length (required S)) 8) (got S []) (refuse 13)
+-- the bytes after a number, and after k numbers
+unfoldable pub restOf : Read ℕ → List ℕ
+restOf (got x bs) = bs
+restOf (refuse e) = []
 
--- the sheet, or the refusal: 3 to 13; document 01, 'Reasons', accepts the sheets that are taken
+unfoldable pub past : ℕ → List ℕ → List ℕ
+past zero bs = bs
+past (suc k) bs = past k (restOf (readNumber bs))
+
+-- In the form with service minutes the number 1 stands before the content. How many numbers do: 1 or 0,
+unfoldable pub leadOf : Read ℕ → ℕ
+leadOf (got x rest) = pick (eqb x 1) 1 0
+leadOf (refuse e) = 0
+
+unfoldable pub lead : List ℕ → ℕ
+lead bs = leadOf (readNumber bs)
+
+-- and the bytes from the content on
+unfoldable pub content : List ℕ → List ℕ
+content bs = past (lead bs) bs
+
+-- the service minutes of a node (11)
+unfoldable pub readService : List ℕ → Read ℕ
+readService bs = number 11 isService bs
+
+-- a sheet has one form: where all service minutes are 0, it is the one without them (11)
+unfoldable pub someService : Sheet → List ℕ → List ℕ → Read Page
+someService S services bs = pick (noService services) (refuse 11) (got (record { says = S; services = services }) bs)
+
+-- the service minutes of each node: none in the one form, behind the content in the other
+unfoldable pub readServices : ℕ → Sheet → List ℕ → Read Page
+readServices zero S bs = got (record { says = S; services = zeros (S .graph .nodes) }) bs
+readServices (suc k) S bs = after (several readService (S .graph .nodes) bs) (someService S)
+
+unfoldable pub readPage : List ℕ → Read Page
+readPage bs = after (readSheet (content bs)) (readServices (lead bs))
+
+-- no bytes may remain (12), and at most eight items may be required (13)
+unfoldable pub complete : Page → List ℕ → Read Page
+complete P (b ∷ bs) = refuse 12
+complete P [] = pick (leb (length (required (sheetOn P))) 8) (got P []) (refuse 13)
+
+-- what the sheet says, or the refusal: 3 to 13
+unfoldable pub page : List ℕ → Read Page
+page bs = after (readPage bs) complete
+
+unfoldable pub meant : Page → List ℕ → Read Sheet
+meant P rest = got (sheetOn P) rest
+
+-- what it means, or the refusal; document 01, 'Reasons', accepts the sheets that are taken
 unfoldable pub taken : List ℕ → Read Sheet
-taken bs = after (readSheet bs) complete
+taken bs = after (page bs) meant

@@ -15,3 +15,9 @@ pub const LIMIT_END: u32 = 1000001;
 
 // One over an arc's most minutes.
 pub const MINUTES_END: u32 = 65536;
+
+// One over a node's most service minutes.
+pub const SERVICE_END: u32 = 601;
+
+// The byte before the content of a sheet with service minutes: the number 1.
+pub const LEAD: u8 = 1;

@@ -8,7 +8,7 @@ use borrow.Author.Tests.{lt-ltb, le-ltb, ltb-true, eq-eqb, ne-eqb}
 use Rattle.lists.specs.Lists.{pick}
 use Rattle.varint.proofs.VarintLaws.{number-got}
 use Rattle.varint.specs.Varint.{Read, got, refuse, after, readNumber, number, judged}
-use Rattle.sheet.specs.Reader.{readMark}
+use Rattle.sheet.specs.Reader.{readMark, readService}
 
 abbrev pub under : ℕ → ℕ → Bool
 under end x = ltb x end
@@ -52,6 +52,10 @@ number-most e k bs = ap (λ (f : ℕ → Bool). number e f bs) (λ i x. sym (leb
 pub mark-number : (bs : List ℕ) → readMark bs ≡ number 11 (under 3) bs
 unfolding readMark
 mark-number bs = number-most 11 2 bs
+
+pub service-number : (bs : List ℕ) → readService bs ≡ number 11 (under 601) bs
+unfolding readService
+service-number bs = number-most 11 600 bs
 
 -- Two different numbers below n and one of at most k, as the ends of an arc and its minutes are read, and source, target and limit.
 abbrev pub endsThen : {A : Type 0} → ℕ → ℕ → ℕ → ℕ → (ℕ → ℕ → ℕ → A) → List ℕ → Read A

@@ -1,15 +1,17 @@
-// Numbers of a sheet, each judged as it is read, and the section of the marks (document 01, 'Sheet and slip').
+// Numbers of a sheet, each judged as it is read, and the sections of the marks and of the service minutes (document 01, 'Sheet and slip'; document 02,
+// request 2.7).
 ghost use mathlib.Core.Path.{_≡_};
 ghost use Prim.Native.Nat.{_≤_};
 ghost use lib.ListN.{length, drop};
 ghost use lib.Dec.{ltb};
 ghost use Rattle.lists.specs.Lists.{front};
 ghost use Rattle.varint.specs.Varint.{number};
-ghost use Rattle.sheet.specs.Reader.{readMark};
+ghost use Rattle.sheet.specs.Reader.{readMark, readService};
 ghost use Rattle.numbers.specs.Answer.{SectionIs};
 ghost use Rattle.numbers.specs.Begun.{begun};
 ghost use Rattle.sheet_values.specs.Values.{judgedOf, nextOf};
 use numbers::SectionRead;
+use sheet::SERVICE_END;
 use varint::Number;
 
 const MARKS_END: u32 = 3;
@@ -53,6 +55,29 @@ pub fn marks_in(section: &[u8], from: usize, count: usize, marks: &mut [u8]) -> 
             }
             ValueRead::Got(mark, next) => {
                 marks[j] = mark as u8;
+                at = next;
+            }
+        }
+        j += 1;
+    }
+    SectionRead::Got(at)
+}
+
+// Reads the service minutes that stand from `from` on and stores each over the front of `services`.
+pub fn services_in(section: &[u8], from: usize, count: usize, services: &mut [u32]) -> SectionRead
+    requires { ⌜ count ≤ length (now services) ⌝ }
+    ensures { λ r. ⌜ SectionIs (now (section .entry)) readService count (drop from (now (section .entry))) r ⌝ }
+    ensures { λ _. ⌜ now (services .exit) ≡ front (begun readService count (drop from (now (section .entry)))) (now (services .entry)) ⌝ }
+{
+    let mut at = from;
+    let mut j: usize = 0;
+    while j < count {
+        match judged_at(section, at, SERVICE_END, 11) {
+            ValueRead::Refused(why) => {
+                return SectionRead::Refused(why);
+            }
+            ValueRead::Got(minutes, next) => {
+                services[j] = minutes;
                 at = next;
             }
         }

@@ -10,8 +10,8 @@ use borrow.Author.Tests.{lt-ltb, le-ltb}
 use Rattle.lists.specs.Lists.{pick}
 use Rattle.varint.specs.Varint.{Read, got, refuse, after, lastGroup, above, readGroups, readNumber, several}
 use Rattle.sheet.specs.Sheet.{Sheet, headerOf}
-use Rattle.sheet.specs.Reader.{taken}
-use Rattle.sheet.specs.ArcView.{restOf, past, bytesOf, forArc, arcView, placeOf}
+use Rattle.sheet.specs.Reader.{restOf, past, content, taken}
+use Rattle.sheet.specs.ArcView.{bytesOf, forArc, arcView, placeOf}
 use Rattle.sheet.specs.declared.Header.{Header}
 use Rattle.sheet_reader.specs.declared.SheetRead.the-variants.{Got, Refused}
 use Rattle.sheet_reader.specs.Answer.{answered}
@@ -137,9 +137,9 @@ module _ (s : List ℕ) (l base : ℕ) where
     view-none n = here (no-arc l _ _ (taken s) q n) (no-arc l _ _ (taken s) q n)
 
     pub view-part :
-        {from to : ℕ} → l < h .arcs → drop from s ≡ past (5 + 3 * l) s → drop to s ≡ past 3 (drop from s) → from ≤ length s → to ≤ length s
+        {from to : ℕ} → l < h .arcs → drop from s ≡ past (5 + 3 * l) (content s) → drop to s ≡ past 3 (drop from s) → from ≤ length s → to ≤ length s
         → Here from (take (to - from) (drop from s))
     unfolding arcView placeOf
     view-part {from} {to} n a b f t =
-        let e : length s - length (past (5 + 3 * l) s) ≡ from = omega (arith, ap length a, length-drop from s) in
+        let e : length s - length (past (5 + 3 * l) (content s)) ≡ from = omega (arith, ap length a, length-drop from s) in
         here (arc-there l _ _ (taken s) q n ∙ e) (arc-there l _ _ (taken s) q n ∙ sym (between s 3 from to b f t ∙ ap (bytesOf 3) a))

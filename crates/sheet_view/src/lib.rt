@@ -2,13 +2,14 @@
 ghost use mathlib.Core.Path.{_≡_};
 ghost use Prim.Native.Nat.{_+_, _*_, _≤_};
 ghost use lib.ListN.{length, drop};
-ghost use Rattle.sheet.specs.ArcView.{past, arcView, placeOf};
+ghost use Rattle.sheet.specs.ArcView.{arcView, placeOf};
+ghost use Rattle.sheet.specs.Reader.{past};
 use numbers::SectionRead;
 use sheet_reader::SheetRead;
 use walks::ARC_NUMBERS;
 use walks::ITEMS;
 
-// How many numbers stand in a sheet's header, and for each arc.
+// How many numbers stand in the header of a sheet's content, and for each arc.
 const HEADER_NUMBERS: usize = 5;
 
 const NUMBERS_EACH: usize = 3;
@@ -40,7 +41,8 @@ pub fn arc_view(sheet: &[u8], arc: u32) -> &[u8]
     if header.arcs <= earlier {
         return &sheet[0..0];
     }
-    let from = past_numbers(sheet, 0, HEADER_NUMBERS + NUMBERS_EACH * earlier);
+    let start = sheet_services::content_at(sheet);
+    let from = past_numbers(sheet, start, HEADER_NUMBERS + NUMBERS_EACH * earlier);
     let to = past_numbers(sheet, from, NUMBERS_EACH);
     &sheet[from..to]
 }

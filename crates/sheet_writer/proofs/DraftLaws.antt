@@ -1,94 +1,104 @@
--- A draft without fault: each of its numbers has a written form, and its sheet is the five numbers, the arcs' numbers and the marks in a row, each mark as it
--- is. And what a call that writes it answers. Assumes nothing.
+-- A draft without fault: each of its numbers has a written form, its content is the five numbers, the arcs' numbers and the marks in a row, each mark as it
+-- is, and its sheet is that content, with a 1 before it and the service minutes behind it where there are any. And what a call that writes it answers. Assumes
+-- nothing.
 use Prim.Native.Nat.{ℕ, _+_, _≤_}
-use mathlib.Core.Path.{_≡_, refl, sym, ap, _∙_}
+use mathlib.Core.Path.{_≡_, sym, ap, _∙_}
 use mathlib.Core.Bool.{Bool, true, false}
-use mathlib.Core.List.{List, [], _∷_, _++_, append-assoc}
+use mathlib.Core.List.{List, _++_, append-assoc}
 use native.Mathlib.Omega.{arith}
 use lib.ListN.{length, length-append}
 use lib.Dec.{leb, eqb}
 use borrow.Author.Tests.{leb-true, eq-eqb, ne-eqb}
 use Rattle.lists.proofs.RowLaws.{rows-append}
 use Rattle.lists.specs.Lists.{front, Put}
-use Rattle.varint.proofs.SizeLaws.{number-byte}
 use Rattle.varint.proofs.WriteLaws.{numbers-rows, small-below}
 use Rattle.varint.specs.Answer.{small}
 use Rattle.varint.specs.Varint.{writeNumbers}
-use Rattle.sheet.specs.declared.Header.{Header}
 use Rattle.sheet.specs.Answer.{wrote, fitted}
-use Rattle.sheet.specs.Draft.{draftOf, draftNumbers, draftSheet, headerNumbers, sheetBytes}
-use Rattle.sheet.specs.Writer.{marksFault, draftFault, writeOn, sheetWritten}
-use Rattle.sheet.proofs.FaultLaws.{first-none, fault-none, Faultless, faultless}
-use Rattle.sheet.proofs.SizeLaws.{sheet-size}
+use Rattle.sheet.specs.Draft.{Draft, plainNumbers, draftSheet, draftPage, headerNumbers, sheetNumbers, withServices, pageNumbers, pageBytes}
+use Rattle.sheet.specs.Page.{noService}
+use Rattle.sheet.specs.Writer.{draftFault, writeOn, sheetWritten}
+use Rattle.sheet.proofs.FaultLaws.{Faultless, faultless}
+use Rattle.sheet.proofs.SizeLaws.{bytes-alone, content-short, served-length, page-size}
 use Rattle.sheet.proofs.WriterLaws.{sheet-numbers, faultless-good}
-
--- a mark is one byte, itself
-marks-bytes : (xs : List ℕ) → marksFault xs ≡ 0 → writeNumbers xs ≡ xs
-unfolding marksFault writeNumbers
-marks-bytes [] e = refl
-marks-bytes (x ∷ xs) e =
-    let s = first-none _ (marksFault xs) e in
-    let l = leb-true x 2 (fault-none 10 _ (s .0)) in
-    rw (number-byte x (omega arith), marks-bytes xs (s .1))
 
 -- what was written for numbers that are those of another list
 pub put-as : (d : List ℕ) {xs ys out : List ℕ} {n : ℕ} → xs ≡ ys → Put (writeNumbers xs) d out n → Put (writeNumbers ys) d out n
 put-as d e w = (w .0 ∙ ap (λ (zs : List ℕ). length (writeNumbers zs)) e, w .1 ∙ ap (λ (zs : List ℕ). front (writeNumbers zs) d) e)
 
-module _ (h : Header) (arcs marks : List ℕ) where
-  module _ (z : draftFault (draftOf h arcs marks) ≡ 0) where
-    f : Faultless (draftOf h arcs marks)
-    f = faultless (draftOf h arcs marks) z
+module _ (d : Draft) where
+  -- the form is that of its service minutes
+  pub plain-form : noService (d .services) ≡ true → pageBytes (draftPage d) ≡ writeNumbers (sheetNumbers (draftSheet d))
+  unfolding pageBytes pageNumbers
+  plain-form e = rw e
 
-    pub small-header : small (headerNumbers h) ≡ true
-    small-header = small-below 268435456 (headerNumbers h) (omega arith) (f .header)
+  pub served-form : noService (d .services) ≡ false → pageBytes (draftPage d) ≡ writeNumbers (withServices (sheetNumbers (draftSheet d)) (d .services))
+  unfolding pageBytes pageNumbers
+  served-form e = rw e
 
-    pub small-arcs : small arcs ≡ true
-    small-arcs = small-below 268435456 arcs (omega arith) (f .arcs)
+  -- and so is its length
+  pub served-size : {a b : ℕ} → a ≡ length (writeNumbers (sheetNumbers (draftSheet d))) → b ≡ length (writeNumbers (d .services))
+      → noService (d .services) ≡ false → 1 + a + b ≡ length (pageBytes (draftPage d))
+  served-size p q e = rw (p, q) (sym (ap length (served-form e) ∙ served-length (sheetNumbers (draftSheet d)) (d .services)))
 
-    pub bytes-are : sheetBytes (draftSheet (draftOf h arcs marks)) ≡ (writeNumbers (headerNumbers h) ++ writeNumbers arcs) ++ marks
-    unfolding sheetBytes draftNumbers
-    bytes-are =
-        ap writeNumbers (sheet-numbers (draftOf h arcs marks) (f .sized)) ∙ rows-append numbers-rows (headerNumbers h) (arcs ++ marks)
-        ∙ ap (λ (bs : List ℕ). writeNumbers (headerNumbers h) ++ bs)
-        (rows-append numbers-rows arcs marks ∙ ap (λ (bs : List ℕ). writeNumbers arcs ++ bs) (marks-bytes marks (f .marks)))
-        ∙ sym (append-assoc (writeNumbers (headerNumbers h)) (writeNumbers arcs) marks)
+  module _ (z : draftFault d ≡ 0) where
+    f : Faultless d
+    f = faultless d z
 
-    pub size-is :
-        length (sheetBytes (draftSheet (draftOf h arcs marks)))
-        ≡ length (writeNumbers (headerNumbers h)) + length (writeNumbers arcs) + length marks
-    size-is = ap length bytes-are ∙ simp length-append
+    pub small-header : small (headerNumbers (d .header)) ≡ true
+    small-header = small-below 268435456 (headerNumbers (d .header)) (omega arith) (f .header)
 
-    pub size-few : length (sheetBytes (draftSheet (draftOf h arcs marks))) ≤ 3144
-    size-few = sheet-size (draftSheet (draftOf h arcs marks)) (faultless-good (draftOf h arcs marks) z)
+    pub small-arcs : small (d .arcs) ≡ true
+    small-arcs = small-below 268435456 (d .arcs) (omega arith) (f .arcs)
+
+    pub small-services : small (d .services) ≡ true
+    small-services = small-below 268435456 (d .services) (omega arith) (f .services)
+
+    pub content-bytes :
+        writeNumbers (sheetNumbers (draftSheet d)) ≡ (writeNumbers (headerNumbers (d .header)) ++ writeNumbers (d .arcs)) ++ d .marks
+    unfolding plainNumbers
+    content-bytes =
+        let h = headerNumbers (d .header) in
+        ap writeNumbers (sheet-numbers d (f .sized)) ∙ rows-append numbers-rows h (d .arcs ++ d .marks)
+        ∙ ap (λ (bs : List ℕ). writeNumbers h ++ bs)
+        (rows-append numbers-rows (d .arcs) (d .marks) ∙ ap (λ (bs : List ℕ). writeNumbers (d .arcs) ++ bs) (bytes-alone (d .marks) (f .marks)))
+        ∙ sym (append-assoc (writeNumbers h) (writeNumbers (d .arcs)) (d .marks))
+
+    pub content-length :
+        length (writeNumbers (sheetNumbers (draftSheet d)))
+        ≡ length (writeNumbers (headerNumbers (d .header))) + length (writeNumbers (d .arcs)) + length (d .marks)
+    content-length = ap length content-bytes ∙ simp length-append
+
+    pub content-few : length (writeNumbers (sheetNumbers (draftSheet d))) ≤ 3144
+    content-few = content-short (draftSheet d) (faultless-good d z .says)
+
+    pub sheet-few : length (pageBytes (draftPage d)) ≤ 3273
+    sheet-few = page-size (draftPage d) (faultless-good d z) .0
 
     module _ (out : List ℕ) where
-      fine : eqb (draftFault (draftOf h arcs marks)) 0 ≡ true
-      fine = eq-eqb (draftFault (draftOf h arcs marks)) 0 z
+      fine : eqb (draftFault d) 0 ≡ true
+      fine = eq-eqb (draftFault d) 0 z
 
       -- the sheet was measured, and it was asked whether there is room for it
-      module _ {size : ℕ} {fits : Bool} (m : size ≡ length (sheetBytes (draftSheet (draftOf h arcs marks)))) (f : fits ≡ leb size (length out)) where
+      module _ {size : ℕ} {fits : Bool} (m : size ≡ length (pageBytes (draftPage d))) (f : fits ≡ leb size (length out)) where
         -- 19
-        pub short-written : fits ≡ false → record { number = 19; length = 0; out = out } ≡ sheetWritten (draftOf h arcs marks) out
+        pub short-written : fits ≡ false → record { number = 19; length = 0; out = out } ≡ sheetWritten d out
         unfolding sheetWritten writeOn wrote fitted
-        short-written n =
-            let q : leb (length (sheetBytes (draftSheet (draftOf h arcs marks)))) (length out) ≡ false = rw (← m) (sym f ∙ n) in
-            rw (fine, q)
+        short-written n = let q : leb (length (pageBytes (draftPage d))) (length out) ≡ false = rw (← m) (sym f ∙ n) in rw (fine, q)
 
         module _ (y : fits ≡ true) where
-          enough : leb (length (sheetBytes (draftSheet (draftOf h arcs marks)))) (length out) ≡ true
+          enough : leb (length (pageBytes (draftPage d))) (length out) ≡ true
           enough = rw (← m) (sym f ∙ y)
 
-          pub room : length (sheetBytes (draftSheet (draftOf h arcs marks))) ≤ length out
-          room = leb-true (length (sheetBytes (draftSheet (draftOf h arcs marks)))) (length out) enough
+          pub room : length (pageBytes (draftPage d)) ≤ length out
+          room = leb-true (length (pageBytes (draftPage d))) (length out) enough
 
-          pub sheet-written : {left : List ℕ} {n : ℕ} → Put (sheetBytes (draftSheet (draftOf h arcs marks))) out left n
-              → record { number = 0; length = n; out = left } ≡ sheetWritten (draftOf h arcs marks) out
+          pub sheet-written : {left : List ℕ} {n : ℕ} → Put (pageBytes (draftPage d)) out left n
+              → record { number = 0; length = n; out = left } ≡ sheetWritten d out
           unfolding sheetWritten writeOn wrote fitted
           sheet-written w = rw (fine, enough, w .0, w .1)
 
   -- the first fault
-  pub fault-written : {e : ℕ} → e ≡ draftFault (draftOf h arcs marks) → (e ≡ 0 → ⊥) → (out : List ℕ)
-      → record { number = e; length = 0; out = out } ≡ sheetWritten (draftOf h arcs marks) out
+  pub fault-written : {e : ℕ} → e ≡ draftFault d → (e ≡ 0 → ⊥) → (out : List ℕ) → record { number = e; length = 0; out = out } ≡ sheetWritten d out
   unfolding sheetWritten writeOn wrote
-  fault-written q d out = rw (← q, ne-eqb _ 0 d)
+  fault-written q n out = rw (← q, ne-eqb _ 0 n)

@@ -1,6 +1,6 @@
 -- From what the code finds to what put answers, stage by stage. Assumes nothing.
 use Prim.Native.Nat.{ℕ, _+_, _≤_, _<_}
-use mathlib.Core.Path.{_≡_, refl, sym, ap, _∙_}
+use mathlib.Core.Path.{_≡_, refl, sym, ap, _∙_, subst}
 use mathlib.Core.Bool.{Bool, true, false, not, _&&_}
 use mathlib.Core.List.{List, [], _∷_, _++_}
 use native.Mathlib.Omega.{arith}
@@ -12,8 +12,11 @@ use Rattle.varint.specs.Varint.{Read, got, refuse, after}
 use Rattle.sheet.proofs.RefusalLaws.{AmongThese, refusing-is}
 use Rattle.sheet.proofs.SlipLaws.{slip-read}
 use Rattle.sheet.specs.Lent.{zeroed, workAfter}
-use Rattle.sheet.specs.Reader.{taken}
-use Rattle.sheet.specs.Sheet.{Sheet}
+use Rattle.sheet.specs.Page.{Page, sheetOn}
+use Rattle.sheet.specs.Reader.{page}
+use Rattle.sheet.specs.Sheet.{Sheet, sheetOf}
+use Rattle.sheet.specs.declared.Header.{Header}
+use Rattle.sheet_reader.specs.Loaded.{LoadedPage}
 use Rattle.sheet.specs.Slip.{Slip, readSlip, as17}
 use Rattle.slip_reader.specs.Form.{slipOf, SlipCounts}
 use Rattle.slip_reader.specs.declared.SlipForm.{SlipForm}
@@ -26,7 +29,7 @@ use Rattle.check_answer.specs.Answer.{checkAnswerOf}
 use Rattle.checker.specs.Written.{formOf}
 use Rattle.check_rules.specs.Check.{wellFormed, holds, judgedOn}
 use Rattle.store_rules.proofs.PutLaws.{putRefusals, put-drawn, put-fits, placed-changes, put-by-check-refused, put-by-check-no, put-by-check-yes}
-use Rattle.store_rules.specs.Shelf.{Nogood, Shelf, baseOf, fitsBase, subsumes, nogoodOf}
+use Rattle.store_rules.specs.Shelf.{Nogood, Base, Shelf, baseOf, fitsBase, subsumes, nogoodOf}
 use Rattle.store_rules.specs.Store as rules
 use Rattle.store_rules.specs.Store.{slipItems, shelvable, placed, entered, putIn, putSlip, putOn, Put, putOutcome}
 use Rattle.store_slot.specs.declared.Slot.{Slot}
@@ -34,8 +37,9 @@ use Rattle.store_slot.specs.Slot.{shown}
 use Rattle.store.specs.declared.Store.{Store}
 use Rattle.store.specs.declared.Putting.{Putting}
 use Rattle.store.specs.declared.Newcomer.{Newcomer}
-use Rattle.store.specs.Held.{baseIn, slipsIn, shelfOf}
+use Rattle.store.specs.Held.{baseFrom, baseIn, slipsIn, shelfOf}
 use Rattle.store.specs.Steps.{Shelved, shelved, PutAs, enteredOn, Rest, Based, Added, Slotted, Judges}
+use Rattle.store.proofs.BaseLaws.{page-base}
 
 -- a put that leaves the store as it was: refused, or with the same shelf
 module _ {before : Store} {p : Putting} {e : ℕ} (u : (p .number ≡ e) × (p .store ≡ before)) where
@@ -54,86 +58,86 @@ unfolding shelved
 keeps {before} u r q = stays u r (ap (shelved (shelfOf before)) q)
 
 -- what a newcomer leads to
-module _ (before : Store) (S : Sheet) (slot : Slot) where
-  pub other-base : fitsBase (shelfOf before) S ≡ false → enteredOn (shelfOf before) S (shown slot) ≡ refuse 22
+module _ (before : Store) (base : Base) (slot : Slot) where
+  pub other-base : fitsBase (shelfOf before) base ≡ false → enteredOn (shelfOf before) base (shown slot) ≡ refuse 22
   unfolding enteredOn
   other-base e = rw e
 
-  module _ (f : fitsBase (shelfOf before) S ≡ true) where
-    pub is-subsumed : any (λ k. subsumes k (shown slot)) (slipsIn before) ≡ true → enteredOn (shelfOf before) S (shown slot) ≡ got (shelfOf before) []
+  module _ (f : fitsBase (shelfOf before) base ≡ true) where
+    pub is-subsumed : any (λ k. subsumes k (shown slot)) (slipsIn before) ≡ true → enteredOn (shelfOf before) base (shown slot) ≡ got (shelfOf before) []
     unfolding enteredOn entered shelfOf
     is-subsumed e = rw (f, e)
 
     module _ (a : any (λ k. subsumes k (shown slot)) (slipsIn before) ≡ false) {rest : Store} (R : Rest before slot rest) where
-      pub no-room : 64 ≤ rest .count → enteredOn (shelfOf before) S (shown slot) ≡ refuse 23
+      pub no-room : 64 ≤ rest .count → enteredOn (shelfOf before) base (shown slot) ≡ refuse 23
       unfolding enteredOn entered placed shelfOf
       no-room h =
           let z : ltb (length (keep (λ k. not (subsumes (shown slot) k)) (slipsIn before))) 64 ≡ false = le-ltb (length (keep (λ k. not (subsumes (shown slot) k)) (slipsIn before))) 64 (omega (arith, R .counted, ap length (R .slips))) in
           rw (f, a, z)
 
       -- the newcomer goes behind the rest
-      room-goes : rest .count < 64 → entered (shelfOf before) (baseOf S) (shown slot) ≡ got (record { base = baseOf S; slips = slipsIn rest ++ (shown slot ∷ []) }) []
+      room-goes : rest .count < 64 → entered (shelfOf before) base (shown slot) ≡ got (record { base = base; slips = slipsIn rest ++ (shown slot ∷ []) }) []
       unfolding entered placed shelfOf
       room-goes h =
           let z : ltb (length (slipsIn rest)) 64 ≡ true = lt-ltb (length (slipsIn rest)) 64 (omega (arith, R .counted)) in
           rw (a, ← (R .slips), z)
 
-      new-shelf : rest .count < 64 → (s : Store) → baseIn s ≡ baseOf S → slipsIn s ≡ slipsIn rest ++ (shown slot ∷ [])
+      new-shelf : rest .count < 64 → (s : Store) → baseIn s ≡ base → slipsIn s ≡ slipsIn rest ++ (shown slot ∷ [])
           → shelfOf s ≡ shelfOf before → ⊥
       unfolding shelfOf
       new-shelf h s b t z =
-          placed-changes (shelfOf before) (baseOf S) (shown slot) (record { base = baseOf S; slips = slipsIn rest ++ (shown slot ∷ []) }) (room-goes h) a
+          placed-changes (shelfOf before) base (shown slot) (record { base = base; slips = slipsIn rest ++ (shown slot ∷ []) }) (room-goes h) a
           (sym t ∙ ap (λ (K : Shelf). K .slips) z)
 
-      pub is-placed : rest .count < 64 → {p : Putting} → p .number ≡ 0 → {based : Store} → Based rest (baseOf S) based → Added based slot (p .store)
-          → PutAs before (enteredOn (shelfOf before) S (shown slot)) p
+      pub is-placed : rest .count < 64 → {p : Putting} → p .number ≡ 0 → {based : Store} → Based rest base based → Added based slot (p .store)
+          → PutAs before (enteredOn (shelfOf before) base (shown slot)) p
       unfolding enteredOn shelved shelfOf
       is-placed h {p} n B A =
-          let b : baseIn (p .store) ≡ baseOf S = A .base ∙ B .base in
+          let b : baseIn (p .store) ≡ base = A .base ∙ B .base in
           let t : slipsIn (p .store) ≡ slipsIn rest ++ (shown slot ∷ []) = A .slips ∙ ap (λ (ks : List Nogood). ks ++ (shown slot ∷ [])) (B .slips) in
           record { answer = rw (f, room-goes h, n, b, t); same = λ z. absurd (new-shelf h (p .store) b t z) }
 
 -- what check answered to the slip, by its number and its yes
-module _ (S : Sheet) (slip : List ℕ) {a : CheckAnswer} (e : a ≡ checkAnswerOf (after (readSlip slip) (judgedOn S))) where
-  drawn : (r : Read Slip) (w : ℕ) → after (as17 r) (judgedOn S) ≡ refuse w → 1 ≤ w
+module _ (P : Page) (slip : List ℕ) {a : CheckAnswer} (e : a ≡ checkAnswerOf (after (readSlip slip) (judgedOn (sheetOn P)))) where
+  drawn : (r : Read Slip) (w : ℕ) → after (as17 r) (judgedOn (sheetOn P)) ≡ refuse w → 1 ≤ w
   unfolding after as17 judgedOn
-  drawn (got s rest) w q = go (wellFormed S s) q
+  drawn (got s rest) w q = go (wellFormed (sheetOn P) s) q
     where
-      go : (t : Bool) → pick t (got (holds S s) rest) (refuse 18) ≡ refuse w → 1 ≤ w
+      go : (t : Bool) → pick t (got (holds (sheetOn P) s) rest) (refuse 18) ≡ refuse w → 1 ≤ w
       go true q = absurd (let z : _≡_ {A = ℕ} 0 1 = cc in omega arith)
       go false q = let z : w ≡ 18 = cc in omega arith
   drawn (refuse x) w q = let z : w ≡ 17 = cc in omega arith
 
-  nothing-left : (b : Bool) (rest : List ℕ) → after (readSlip slip) (judgedOn S) ≡ got b rest → rest ≡ []
+  nothing-left : (b : Bool) (rest : List ℕ) → after (readSlip slip) (judgedOn (sheetOn P)) ≡ got b rest → rest ≡ []
   unfolding after judgedOn
   nothing-left b rest q = go (readSlip slip) (slip-read slip) q
     where
-      formed : (s : Slip) (bs : List ℕ) → bs ≡ [] → (t : Bool) → pick t (got (holds S s) bs) (refuse 18) ≡ got b rest → rest ≡ []
+      formed : (s : Slip) (bs : List ℕ) → bs ≡ [] → (t : Bool) → pick t (got (holds (sheetOn P) s) bs) (refuse 18) ≡ got b rest → rest ≡ []
       formed s bs z true q = let y : bs ≡ rest = cc in sym y ∙ z
       formed s bs z false q = absurd (let y : _≡_ {A = ℕ} 0 1 = cc in omega arith)
 
-      go : (r : Read Slip) → ((s : Slip) (bs : List ℕ) → r ≡ got s bs → (1 ≤ s .first) × (s .first ≤ 4) × (bs ≡ [])) → after r (judgedOn S) ≡ got b rest → rest ≡ []
-      go (got s bs) h q = formed s bs (h s bs refl .2) (wellFormed S s) q
+      go : (r : Read Slip) → ((s : Slip) (bs : List ℕ) → r ≡ got s bs → (1 ≤ s .first) × (s .first ≤ 4) × (bs ≡ [])) → after r (judgedOn (sheetOn P)) ≡ got b rest → rest ≡ []
+      go (got s bs) h q = formed s bs (h s bs refl .2) (wellFormed (sheetOn P) s) q
       go (refuse w) h q = absurd (let y : _≡_ {A = ℕ} 0 1 = cc in omega arith)
 
-  pub check-refused : (a .number ≡ 0 → ⊥) → (K : Shelf) → after (readSlip slip) (putSlip K S) ≡ refuse (a .number)
+  check-refused : (a .number ≡ 0 → ⊥) → (K : Shelf) → after (readSlip slip) (putSlip K P) ≡ refuse (a .number)
   unfolding checkAnswerOf
-  check-refused n K = put-by-check-refused K S slip (a .number) (go (after (readSlip slip) (judgedOn S)) e)
+  check-refused n K = put-by-check-refused K P slip (a .number) (go (after (readSlip slip) (judgedOn (sheetOn P))) e)
     where
       go : (r : Read Bool) → a ≡ checkAnswerOf r → r ≡ refuse (a .number)
       go (got b rest) q = absurd (n (ap (λ (x : CheckAnswer). x .number) q))
       go (refuse w) q = ap refuse (sym (ap (λ (x : CheckAnswer). x .number) q))
 
-  said : a .number ≡ 0 → after (readSlip slip) (judgedOn S) ≡ got (a .yes) []
+  said : a .number ≡ 0 → after (readSlip slip) (judgedOn (sheetOn P)) ≡ got (a .yes) []
   unfolding checkAnswerOf readSlip
-  said n = go (after (readSlip slip) (judgedOn S)) refl e
+  said n = go (after (readSlip slip) (judgedOn (sheetOn P))) refl e
     where
-      go : (r : Read Bool) → after (readSlip slip) (judgedOn S) ≡ r → a ≡ checkAnswerOf r → r ≡ got (a .yes) []
+      go : (r : Read Bool) → after (readSlip slip) (judgedOn (sheetOn P)) ≡ r → a ≡ checkAnswerOf r → r ≡ got (a .yes) []
       go (got b rest) q z = let y : a .yes ≡ b = ap (λ (x : CheckAnswer). x .yes) z in rw (y, nothing-left b rest q)
       go (refuse w) q z = absurd (omega (arith, drawn _ w q, n, ap (λ (x : CheckAnswer). x .number) z))
 
-  pub check-no : a .number ≡ 0 → a .yes ≡ false → (K : Shelf) → after (readSlip slip) (putSlip K S) ≡ refuse 20
-  check-no n y K = put-by-check-no K S slip (said n ∙ ap (λ (b : Bool). got b []) y)
+  check-no : a .number ≡ 0 → a .yes ≡ false → (K : Shelf) → after (readSlip slip) (putSlip K P) ≡ refuse 20
+  check-no n y K = put-by-check-no K P slip (said n ∙ ap (λ (b : Bool). got b []) y)
 
 -- whether a slip that check says yes to is shelvable, by its first number and its counts
 abbrev slots : Slip → Bool
@@ -147,21 +151,21 @@ shelvable-is S s h l = rw h (ap (λ (b : Bool). b && leb (length (s .goals) + le
     go true q = let m = leb-true (s .first) 3 q in ap not (ne-eqb (s .first) 4 (λ e. absurd (omega (arith, m, e))))
     go false q = let m = leb-false (s .first) 3 q in let e : s .first ≡ 4 = omega (arith, m) in ap not (eq-eqb (s .first) 4 e)
 
-module _ (K : Shelf) (S : Sheet) (s : Slip) (r : Newcomer) (h : holds S s ≡ true) (l : s .first ≤ 4) (t : Slotted (S .limit) (got s []) r) where
-  slotted-refused : (r .number ≡ 0 → ⊥) → putIn K S s ≡ refuse (r .number)
+module _ (K : Shelf) (P : Page) (s : Slip) (r : Newcomer) (h : holds (sheetOn P) s ≡ true) (l : s .first ≤ 4) (t : Slotted (sheetOn P .limit) (got s []) r) where
+  slotted-refused : (r .number ≡ 0 → ⊥) → putIn K P s ≡ refuse (r .number)
   unfolding putIn
   slotted-refused n = go (slots s) refl
     where
-      go : (b : Bool) → slots s ≡ b → putIn K S s ≡ refuse (r .number)
+      go : (b : Bool) → slots s ≡ b → putIn K P s ≡ refuse (r .number)
       go true q = absurd (n (t .0 q .0))
-      go false q = rw (shelvable-is S s h l, q) (ap refuse (sym (t .1 q)))
+      go false q = rw (shelvable-is (sheetOn P) s h l, q) (ap refuse (sym (t .1 q)))
 
-  slotted-goes : r .number ≡ 0 → putIn K S s ≡ enteredOn K S (shown (r .slot))
+  slotted-goes : r .number ≡ 0 → putIn K P s ≡ enteredOn K (baseOf P) (shown (r .slot))
   unfolding putIn enteredOn
   slotted-goes n = go (slots s) refl
     where
-      go : (b : Bool) → slots s ≡ b → putIn K S s ≡ enteredOn K S (shown (r .slot))
-      go true q = rw (shelvable-is S s h l, q, t .0 q .1)
+      go : (b : Bool) → slots s ≡ b → putIn K P s ≡ enteredOn K (baseOf P) (shown (r .slot))
+      go true q = rw (shelvable-is (sheetOn P) s h l, q, t .0 q .1)
       go false q = absurd (omega (arith, n, t .1 q))
 
 -- the slot of a slip, from how it is written
@@ -177,34 +181,47 @@ module _ (limit : ℕ) (slip : List ℕ) (w : SlipRead) (e : slipOf slip w ≡ r
   unslotted q = let r : readSlip slip ≡ refuse 17 = sym e ∙ ap (slipOf slip) q in rw r tt
 
 -- what check answered, and the slot of a slip to which it said yes, judge the slip for every shelf
-module _ (S : Sheet) (slip : List ℕ) {a : CheckAnswer} (e : a ≡ checkAnswerOf (after (readSlip slip) (judgedOn S))) {r : Newcomer} where
-  pub judges-refused : (a .number ≡ 0 → ⊥) → r .number ≡ a .number → Judges S slip r
+module _ (S : Sheet) (slip : List ℕ) {a : CheckAnswer} (e : a ≡ checkAnswerOf (after (readSlip slip) (judgedOn S))) where
+  -- the same answer, by what a page means
+  meant : (P : Page) → sheetOn P ≡ S → a ≡ checkAnswerOf (after (readSlip slip) (judgedOn (sheetOn P)))
+  meant P m = e ∙ ap (λ (T : Sheet). checkAnswerOf (after (readSlip slip) (judgedOn T))) (sym m)
+
+  pub judges-refused : {r : Newcomer} → (a .number ≡ 0 → ⊥) → r .number ≡ a .number → Judges S slip r
   judges-refused n q =
-      record { refused = λ z K. check-refused S slip e n K ∙ ap refuse (sym q); goes = λ z K. absurd (n (sym q ∙ z)) }
+      record { refused = λ z K P m. check-refused P slip (meant P m) n K ∙ ap refuse (sym q); goes = λ z K P m. absurd (n (sym q ∙ z)) }
 
-  pub judges-no : a .number ≡ 0 → a .yes ≡ false → r .number ≡ 20 → Judges S slip r
-  judges-no n y q = record { refused = λ z K. check-no S slip e n y K ∙ ap refuse (sym q); goes = λ z K. absurd (omega (arith, q, z)) }
+  pub judges-no : {r : Newcomer} → a .number ≡ 0 → a .yes ≡ false → r .number ≡ 20 → Judges S slip r
+  judges-no n y q =
+      record { refused = λ z K P m. check-no P slip (meant P m) n y K ∙ ap refuse (sym q); goes = λ z K P m. absurd (omega (arith, q, z)) }
 
-  pub judges-yes : a .number ≡ 0 → a .yes ≡ true → Slotted (S .limit) (readSlip slip) r → Judges S slip r
-  judges-yes n y t = record { refused = λ z K. by K .0 z; goes = λ z K. by K .1 z }
+  pub judges-yes : {r : Newcomer} → a .number ≡ 0 → a .yes ≡ true → Slotted (S .limit) (readSlip slip) r → Judges S slip r
+  judges-yes {r} n y t = record { refused = λ z K P m. by K P m .0 z; goes = λ z K P m. by K P m .1 z }
     where
-      by : (K : Shelf) → ((r .number ≡ 0 → ⊥) → after (readSlip slip) (putSlip K S) ≡ refuse (r .number)) × (r .number ≡ 0 → after (readSlip slip) (putSlip K S) ≡ enteredOn K S (shown (r .slot)))
-      by K =
-          let j = put-by-check-yes K S slip (said S slip e n ∙ ap (λ (b : Bool). got b []) y) in
+      by : (K : Shelf) (P : Page) → sheetOn P ≡ S → ((r .number ≡ 0 → ⊥) → after (readSlip slip) (putSlip K P) ≡ refuse (r .number)) × (r .number ≡ 0 → after (readSlip slip) (putSlip K P) ≡ enteredOn K (baseOf P) (shown (r .slot)))
+      by K P m =
+          let j = put-by-check-yes K P slip (said P slip (meant P m) n ∙ ap (λ (b : Bool). got b []) y) in
           let l = slip-read slip (j .slip) [] (j .read) .1 in
-          let u : Slotted (S .limit) (got (j .slip) []) r = rw (j .read) at t in
-          (λ z. j .goes ∙ slotted-refused K S (j .slip) r (j .says) l u z, λ z. j .goes ∙ slotted-goes K S (j .slip) r (j .says) l u z)
+          let t′ : Slotted (sheetOn P .limit) (readSlip slip) r = subst (λ (T : Sheet). Slotted (T .limit) (readSlip slip) r) (sym m) t in
+          let u : Slotted (sheetOn P .limit) (got (j .slip) []) r = rw (j .read) at t′ in
+          (λ z. j .goes ∙ slotted-refused K P (j .slip) r (j .says) l u z, λ z. j .goes ∙ slotted-goes K P (j .slip) r (j .says) l u z)
 
--- a sheet that is refused, and one that is taken
+-- a sheet that is refused, and one that was read: what the slip draws on it, or what the newcomer leads to
 module _ (before : Store) (sheet slip : List ℕ) where
-  pub bad-sheet : (w : ℕ) → taken sheet ≡ refuse w → putOn (shelfOf before) sheet slip ≡ refuse w
+  pub bad-sheet : (w : ℕ) → page sheet ≡ refuse w → putOn (shelfOf before) sheet slip ≡ refuse w
   unfolding putOn after
   bad-sheet w e = rw e
 
-  module _ (S : Sheet) (e : taken sheet ≡ got S []) where
-    pub good-sheet : putOn (shelfOf before) sheet slip ≡ after (readSlip slip) (putSlip (shelfOf before) S)
+  module _ {h : Header} {arcs marks services : List ℕ} (L : LoadedPage sheet h arcs marks services) {r : Newcomer} (J : Judges (sheetOf h arcs marks) slip r) where
+    good-sheet : putOn (shelfOf before) sheet slip ≡ after (readSlip slip) (putSlip (shelfOf before) (L .on))
     unfolding putOn after
-    good-sheet = rw e
+    good-sheet = rw (L .took)
+
+    pub slip-refused : (r .number ≡ 0 → ⊥) → putOn (shelfOf before) sheet slip ≡ refuse (r .number)
+    slip-refused n = good-sheet ∙ J .refused n (shelfOf before) (L .on) (L .means)
+
+    pub slip-goes : r .number ≡ 0 → putOn (shelfOf before) sheet slip ≡ enteredOn (shelfOf before) (baseFrom h arcs services) (shown (r .slot))
+    slip-goes n =
+        good-sheet ∙ J .goes n (shelfOf before) (L .on) (L .means) ∙ ap (λ (B : Base). enteredOn (shelfOf before) B (shown (r .slot))) (page-base L)
 
 pub as-drawn : {before : Store} {r q : Read Shelf} {p : Putting} → r ≡ q → PutAs before q p → PutAs before r p
 as-drawn e a = rw e a

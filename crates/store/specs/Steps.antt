@@ -7,6 +7,7 @@ use lib.ListN.{length}
 use lib.Dec.{leb}
 use Rattle.lists.specs.Lists.{pick, keep}
 use Rattle.varint.specs.Varint.{Read, got, refuse, after}
+use Rattle.sheet.specs.Page.{Page, sheetOn}
 use Rattle.sheet.specs.Sheet.{Sheet}
 use Rattle.sheet.specs.Slip.{Slip, readSlip}
 use Rattle.store_rules.specs.Shelf.{Nogood, Base, Shelf, baseOf, fitsBase, subsumes, nogoodOf, Found, found, earliest}
@@ -35,8 +36,8 @@ pub record PutAs (before : Store) (r : Read Shelf) (p : Putting) : Type 0 where
   pub same : shelfOf (p .store) ≡ shelfOf before → p .store ≡ before
 
 -- 22, or what a newcomer leads to
-unfoldable pub enteredOn : Shelf → Sheet → Nogood → Read Shelf
-enteredOn K S new = pick (fitsBase K S) (entered K (baseOf S) new) (refuse 22)
+unfoldable pub enteredOn : Shelf → Base → Nogood → Read Shelf
+enteredOn K base new = pick (fitsBase K base) (entered K base new) (refuse 22)
 
 -- a store with the slips that a newcomer does not subsume
 pub record Rest (before : Store) (slot : Slot) (s : Store) : Type 0 where
@@ -61,10 +62,10 @@ Slotted limit (got s rest) r =
     × ((leb (s .first) 3 && leb (length (s .goals) + length (s .reasons)) slipItems) ≡ false → r .number ≡ 20)
 Slotted limit (refuse e) r = Unit {0}
 
--- what every shelf answers to a slip on a taken sheet: the refusal, or what the newcomer leads to
+-- what every shelf answers to a slip on a taken sheet that means S: the refusal, or what the newcomer leads to
 pub record Judges (S : Sheet) (slip : List ℕ) (r : Newcomer) : Type 0 where
-  pub refused : (r .number ≡ 0 → ⊥) → (K : Shelf) → after (readSlip slip) (putSlip K S) ≡ refuse (r .number)
-  pub goes : r .number ≡ 0 → (K : Shelf) → after (readSlip slip) (putSlip K S) ≡ enteredOn K S (shown (r .slot))
+  pub refused : (r .number ≡ 0 → ⊥) → (K : Shelf) (P : Page) → sheetOn P ≡ S → after (readSlip slip) (putSlip K P) ≡ refuse (r .number)
+  pub goes : r .number ≡ 0 → (K : Shelf) (P : Page) → sheetOn P ≡ S → after (readSlip slip) (putSlip K P) ≡ enteredOn K (baseOf P) (shown (r .slot))
 
 -- a finished ask that found this
 pub record AskedAs (f : Found) (r : Asked) : Type 0 where

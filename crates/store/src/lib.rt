@@ -1,10 +1,10 @@
-// The nogood store (document 02, request 2.6: a shelf of reasons) by value: slips of refused rounds, kept for later sheets of one map, start and finish.
+// The nogood store (document 02, requests 2.6, a shelf of reasons, and 2.7) by value: slips of refused rounds, kept for later sheets of one map with its
+// service minutes, start and finish.
 //
 // A program in C lends the store, so it may hold any numbers: no count in it is trusted, and every store shows some shelf (`shelfOf`).
 ghost use mathlib.Core.Path.{_≡_};
 ghost use mathlib.Core.Bool.{false, _&&_};
-ghost use mathlib.Core.List.{List};
-ghost use Prim.Native.Nat.{ℕ, _+_, _*_, _≤_, _<_};
+ghost use Prim.Native.Nat.{_+_, _*_, _≤_, _<_};
 ghost use lib.ListN.{length};
 ghost use lib.Dec.{leb};
 ghost use Rattle.lists.specs.Lists.{any, front};
@@ -25,12 +25,13 @@ use store_slot::Slot;
 use walks::ARC_NUMBERS;
 use walks::ARCS;
 use walks::ITEMS;
+use walks::NODES;
 
 // The most slips.
 pub const SLOTS: usize = 64;
 
-// How many slips there are, earliest put first, and the map, start and finish that they are for: nodes, arcs, source, target, and tail, head and minutes of
-// each arc.
+// How many slips there are, earliest put first, and the map, start and finish that they are for: nodes, arcs, source, target; tail, head and weight of each
+// arc, where a weight is the arc's minutes and the service minutes of its head; and the service minutes of each node.
 #[repr(C)]
 pub struct Store {
     pub count: u32,
@@ -39,6 +40,7 @@ pub struct Store {
     pub source: u32,
     pub target: u32,
     pub legs: [u32; ARC_NUMBERS],
+    pub services: [u32; NODES],
     pub slots: [Slot; SLOTS],
 }
 
@@ -61,6 +63,7 @@ pub fn empty() -> Store
 {
     let slot = store_slot::empty_slot();
     let legs = [0u32; ARC_NUMBERS];
+    let services = [0u32; NODES];
     let slots = [slot; SLOTS];
     Store {
         count: 0,
@@ -69,14 +72,15 @@ pub fn empty() -> Store
         source: 0,
         target: 0,
         legs: legs,
+        services: services,
         slots: slots,
     }
 }
 
-// Whether the store's map, source and target are those of a sheet.
-fn same_base(store: Store, header: Header, arcs: &[u32]) -> bool
+// Whether the store's map, service minutes, source and target are those of a sheet.
+fn same_base(store: Store, header: Header, arcs: &[u32], services: &[u32]) -> bool
     requires { ⌜ length (now arcs) ≡ 3 * header .arcs ⌝ }
-    ensures { λ r. ⌜ r ≡ sameBase (baseIn store) (baseFrom header (now (arcs .entry))) ⌝ }
+    ensures { λ r. ⌜ r ≡ sameBase (baseIn store) (baseFrom header (now (arcs .entry)) (now (services .entry))) ⌝ }
 {
     if store.nodes as usize != header.nodes {
         return false;
@@ -87,20 +91,25 @@ fn same_base(store: Store, header: Header, arcs: &[u32]) -> bool
     if store.target as usize != header.target {
         return false;
     }
+    let nodes = store_slot::at_most(store.nodes, NODES);
+    let kept = store.services;
+    if !lists::same_numbers(&kept[..nodes], services) {
+        return false;
+    }
     let numbers = 3 * store_slot::at_most(store.arcs, ARCS);
     let legs = store.legs;
     lists::same_numbers(&legs[..numbers], arcs)
 }
 
-// Whether a sheet may be put on the store or asked of it: the store has no slip, or is for the sheet's map, source and target.
-fn fits_base(store: Store, header: Header, arcs: &[u32]) -> bool
+// Whether a sheet may be put on the store or asked of it: the store has no slip, or is for the sheet's map, service minutes, source and target.
+fn fits_base(store: Store, header: Header, arcs: &[u32], services: &[u32]) -> bool
     requires { ⌜ length (now arcs) ≡ 3 * header .arcs ⌝ }
-    ensures { λ r. ⌜ ((marks : List ℕ) → r ≡ fitsBase (shelfOf store) (sheetOf header (now (arcs .entry)) marks)) ⌝ }
+    ensures { λ r. ⌜ r ≡ fitsBase (shelfOf store) (baseFrom header (now (arcs .entry)) (now (services .entry))) ⌝ }
 {
     if store.count == 0 {
         return true;
     }
-    same_base(store, header, arcs)
+    same_base(store, header, arcs, services)
 }
 
 // Whether some slip of the store subsumes the newcomer.
@@ -139,33 +148,35 @@ fn without_subsumed(store: Store, slot: Slot) -> Store
     rest
 }
 
-// The numbers over the front of the legs; what stands behind them is free.
-fn with_legs(legs: [u32; ARC_NUMBERS], arcs: &[u32]) -> [u32; ARC_NUMBERS]
-    requires { ⌜ length (now arcs) ≤ 1536 ⌝ }
-    ensures { λ r. ⌜ r ≡ front (now (arcs .entry)) legs ⌝ }
+// The numbers over the front of what is kept; what stands behind them is free.
+fn write_front(kept: &mut [u32], numbers: &[u32])
+    requires { ⌜ length (now numbers) ≤ length (now kept) ⌝ }
+    ensures { λ _. ⌜ now (kept .exit) ≡ front (now (numbers .entry)) (now (kept .entry)) ⌝ }
 {
-    let mut out = legs;
     let mut i: usize = 0;
-    while i < arcs.len() {
-        out[i] = arcs[i];
+    while i < numbers.len() {
+        kept[i] = numbers[i];
         i += 1;
     }
-    out
 }
 
-// The store with a sheet's map, source and target.
-fn with_base(store: Store, header: Header, arcs: &[u32]) -> Store
-    requires { ⌜ (length (now arcs) ≡ 3 * header .arcs) × (header .nodes ≤ 64) × (header .arcs ≤ 512) × (header .source < 64) × (header .target < 64) ⌝ }
-    ensures { λ r. ⌜ Based store (baseFrom header (now (arcs .entry))) r ⌝ }
+// The store with a sheet's map, service minutes, source and target.
+fn with_base(store: Store, header: Header, arcs: &[u32], services: &[u32]) -> Store
+    requires { ⌜ (length (now arcs) ≡ 3 * header .arcs) × (length (now services) ≡ header .nodes) ⌝ }
+    requires { ⌜ (header .nodes ≤ 64) × (header .arcs ≤ 512) × (header .source < 64) × (header .target < 64) ⌝ }
+    ensures { λ r. ⌜ Based store (baseFrom header (now (arcs .entry)) (now (services .entry))) r ⌝ }
 {
     let mut based = store;
     based.nodes = header.nodes as u32;
     based.arcs = header.arcs as u32;
     based.source = header.source as u32;
     based.target = header.target as u32;
-    let old = store.legs;
-    let legs = with_legs(old, arcs);
+    let mut legs = store.legs;
+    write_front(&mut legs, arcs);
     based.legs = legs;
+    let mut kept = store.services;
+    write_front(&mut kept, services);
+    based.services = kept;
     based
 }
 
@@ -191,12 +202,14 @@ fn unchanged(store: Store, number: u32) -> Putting
     }
 }
 
-// Puts a newcomer on the store: 22, another map, source or target; nothing is changed where it is subsumed; 23, there is no room.
-fn enter(store: Store, header: Header, arcs: &[u32], slot: Slot) -> Putting
-    requires { ⌜ (length (now arcs) ≡ 3 * header .arcs) × (header .nodes ≤ 64) × (header .arcs ≤ 512) × (header .source < 64) × (header .target < 64) ⌝ }
-    ensures { λ r. ⌜ ((marks : List ℕ) → PutAs store (enteredOn (shelfOf store) (sheetOf header (now (arcs .entry)) marks) (shown slot)) r) ⌝ }
+// Puts a newcomer on the store: 22, another map, other service minutes, another source or target; nothing is changed where it is subsumed; 23, there is no
+// room.
+fn enter(store: Store, header: Header, arcs: &[u32], services: &[u32], slot: Slot) -> Putting
+    requires { ⌜ (length (now arcs) ≡ 3 * header .arcs) × (length (now services) ≡ header .nodes) ⌝ }
+    requires { ⌜ (header .nodes ≤ 64) × (header .arcs ≤ 512) × (header .source < 64) × (header .target < 64) ⌝ }
+    ensures { λ r. let base = baseFrom header (now (arcs .entry)) (now (services .entry)) in ⌜ PutAs store (enteredOn (shelfOf store) base (shown slot)) r ⌝ }
 {
-    if !fits_base(store, header, arcs) {
+    if !fits_base(store, header, arcs, services) {
         return unchanged(store, 22);
     }
     if some_subsumes(store, slot) {
@@ -206,7 +219,7 @@ fn enter(store: Store, header: Header, arcs: &[u32], slot: Slot) -> Putting
     if rest.count as usize >= SLOTS {
         return unchanged(store, 23);
     }
-    let based = with_base(rest, header, arcs);
+    let based = with_base(rest, header, arcs, services);
     Putting {
         number: 0,
         store: with_slot(based, slot),
@@ -279,23 +292,25 @@ pub fn put_sheet(store: Store, sheet: &[u8], slip: &[u8]) -> Putting
 {
     let mut arcs = [0u32; ARC_NUMBERS];
     let mut marks = [0u8; ITEMS];
-    let header = match sheet_reader::read(sheet, &mut arcs, &mut marks) {
+    let mut services = [0u32; NODES];
+    let header = match sheet_reader::read_page(sheet, &mut arcs, &mut marks, &mut services) {
         SheetRead::Got(header) => header,
         SheetRead::Refused(why) => return unchanged(store, why),
     };
+    let nodes = header.nodes;
     let numbers = 3 * header.arcs;
-    let items = header.nodes + header.arcs;
+    let items = nodes + header.arcs;
     let newcomer = judge(header, &arcs[..numbers], &marks[..items], slip);
     let number = newcomer.number;
     if number != 0 {
         return unchanged(store, number);
     }
     let slot = newcomer.slot;
-    enter(store, header, &arcs[..numbers], slot)
+    enter(store, header, &arcs[..numbers], &services[..nodes], slot)
 }
 
 // Put: for every store, sheet, work and slip what document 02 says, refused ones too. Where the shelf is as it was, so is every number of the store; what a
-// finished call leaves in slots past the count, and in numbers past a list's or the arcs' end, is free.
+// finished call leaves in slots past the count, and in numbers past the end of a list, the arcs or the service minutes, is free.
 pub fn put(store: Store, sheet: &[u8], work: &mut [u32], slip: &[u8]) -> Putting
     ensures { λ r. ⌜ (record { number = r .number; shelf = shelfOf (r .store); work = now (work .exit) }
         ≡ put (shelfOf store) (now (sheet .entry)) (now (work .entry)) (now (slip .entry)))
@@ -347,13 +362,15 @@ pub fn ask(store: Store, sheet: &[u8]) -> Asked
 {
     let mut arcs = [0u32; ARC_NUMBERS];
     let mut marks = [0u8; ITEMS];
-    let header = match sheet_reader::read(sheet, &mut arcs, &mut marks) {
+    let mut services = [0u32; NODES];
+    let header = match sheet_reader::read_page(sheet, &mut arcs, &mut marks, &mut services) {
         SheetRead::Got(header) => header,
         SheetRead::Refused(why) => return unfound(why),
     };
+    let nodes = header.nodes;
     let numbers = 3 * header.arcs;
-    let items = header.nodes + header.arcs;
-    if !fits_base(store, header, &arcs[..numbers]) {
+    let items = nodes + header.arcs;
+    if !fits_base(store, header, &arcs[..numbers], &services[..nodes]) {
         return unfound(22);
     }
     first_applying(store, &marks[..items], header.limit)

@@ -16,7 +16,8 @@ use Rattle.varint.proofs.WriteLaws.{small-below, numbers-rows}
 use Rattle.varint.specs.Answer.{small}
 use Rattle.varint.specs.Varint.{Read, got, refuse, writeNumbers}
 use Rattle.sheet.proofs.RefusalLaws.{AmongThese, refusing-is}
-use Rattle.sheet.proofs.SheetLaws.{taken-good}
+use Rattle.sheet.proofs.SheetLaws.{page-good}
+use Rattle.sheet.specs.Page.{sheetOn}
 use Rattle.sheet.specs.Slip.{Slip, slipNumbers, slipBytes}
 use Rattle.slip_reader.specs.Form.{slipFrom}
 use Rattle.store_rules.proofs.PutLaws.{putRefusals, put-drawn, put-fits, askRefusals, ask-drawn, ask-fits}
@@ -167,8 +168,8 @@ module _ (K : Shelf) (sheet : List ℕ) {n : ℕ} {f : Found} (a : record { numb
   ask-named z k q =
       let e = ask-finishes z in
       let s = ask-found K sheet k (e .0) (e .1 ∙ ap (λ (g : Found). got g (e .0)) q) in
-      let G = taken-good sheet (s .on) [] (s .took) in
-      let b = applies-items k (s .on) (G .size) (s .applied) in
+      let G = page-good sheet (s .on) [] (s .took) .means in
+      let b = applies-items k (sheetOn (s .on)) (G .size) (s .applied) in
       record { goals = λ x m. omega (arith, b .0 x m, G .nodes, G .arcs); reasons = λ x m. omega (arith, b .1 x m, G .nodes, G .arcs) }
 
 -- 2

@@ -13,11 +13,12 @@ use Rattle.lists.proofs.TestLaws.{and-true, true-and, not-true, false-back, pic
 use Rattle.lists.specs.Lists.{pick, member, every, keep, any}
 use Rattle.varint.proofs.VarintLaws.{after-got, got-both}
 use Rattle.varint.specs.Varint.{Read, got, refuse, after, number}
-use Rattle.sheet.proofs.RefusalLaws.{AmongThese, these-fit, Refusing, after-refusing, taken-refusing-these}
+use Rattle.sheet.proofs.RefusalLaws.{AmongThese, these-fit, Refusing, after-refusing, page-refusing-these}
 use Rattle.sheet.proofs.SlipLaws.{slip-read}
-use Rattle.sheet.proofs.SheetLaws.{taken-got}
+use Rattle.sheet.proofs.SheetLaws.{page-got}
 use Rattle.sheet.specs.Lent.{workNumbers}
-use Rattle.sheet.specs.Reader.{taken}
+use Rattle.sheet.specs.Page.{Page, sheetOn}
+use Rattle.sheet.specs.Reader.{page}
 use Rattle.sheet.specs.Sheet.{Sheet}
 use Rattle.sheet.specs.Slip.{Slip, readSlip}
 use Rattle.check_rules.proofs.WithinLaws.{slip-refusing}
@@ -98,48 +99,48 @@ placed-changes K base new L e a s = go (entered-got K base new L [] e)
         true≢false (sym (subsumes-self new) ∙ any-last (λ k. subsumes k new) (left K new) new (ap (any (λ k. subsumes k new)) (sym z) ∙ a))
 
 -- a slip that was read and is well formed, so that check says b of it and put goes on with it
-pub record Judged (K : Shelf) (S : Sheet) (r : Read Slip) (b : Bool) : Type 0 where
+pub record Judged (K : Shelf) (P : Page) (r : Read Slip) (b : Bool) : Type 0 where
   pub slip : Slip
   pub read : r ≡ got slip []
-  pub formed : wellFormed S slip ≡ true
-  pub says : holds S slip ≡ b
-  pub goes : after r (putSlip K S) ≡ putIn K S slip
+  pub formed : wellFormed (sheetOn P) slip ≡ true
+  pub says : holds (sheetOn P) slip ≡ b
+  pub goes : after r (putSlip K P) ≡ putIn K P slip
 
-module _ (K : Shelf) (S : Sheet) (slip : List ℕ) where
+module _ (K : Shelf) (P : Page) (slip : List ℕ) where
   -- what check refuses, put refuses
-  pub put-by-check-refused : (e : ℕ) → after (readSlip slip) (judgedOn S) ≡ refuse e → after (readSlip slip) (putSlip K S) ≡ refuse e
+  pub put-by-check-refused : (e : ℕ) → after (readSlip slip) (judgedOn (sheetOn P)) ≡ refuse e → after (readSlip slip) (putSlip K P) ≡ refuse e
   unfolding after judgedOn putSlip
   put-by-check-refused e q = go (readSlip slip) q
     where
-      formed : (s : Slip) (rest : List ℕ) (t : Bool) → pick t (got (holds S s) rest) (refuse 18) ≡ refuse e → pick t (putIn K S s) (refuse 18) ≡ refuse e
+      formed : (s : Slip) (rest : List ℕ) (t : Bool) → pick t (got (holds (sheetOn P) s) rest) (refuse 18) ≡ refuse e → pick t (putIn K P s) (refuse 18) ≡ refuse e
       formed s rest true q = absurd (let z : _≡_ {A = ℕ} 0 1 = cc in omega arith)
       formed s rest false q = cc
 
-      go : (r : Read Slip) → after r (judgedOn S) ≡ refuse e → after r (putSlip K S) ≡ refuse e
-      go (got s rest) q = formed s rest (wellFormed S s) q
+      go : (r : Read Slip) → after r (judgedOn (sheetOn P)) ≡ refuse e → after r (putSlip K P) ≡ refuse e
+      go (got s rest) q = formed s rest (wellFormed (sheetOn P) s) q
       go (refuse w) q = cc
 
-  by-check : (b : Bool) → after (readSlip slip) (judgedOn S) ≡ got b [] → Judged K S (readSlip slip) b
+  by-check : (b : Bool) → after (readSlip slip) (judgedOn (sheetOn P)) ≡ got b [] → Judged K P (readSlip slip) b
   unfolding after judgedOn putSlip
   by-check b q = go (readSlip slip) q
     where
-      formed : (s : Slip) (rest : List ℕ) (t : Bool) → wellFormed S s ≡ t → pick t (got (holds S s) rest) (refuse 18) ≡ got b [] → Judged K S (got s rest) b
+      formed : (s : Slip) (rest : List ℕ) (t : Bool) → wellFormed (sheetOn P) s ≡ t → pick t (got (holds (sheetOn P) s) rest) (refuse 18) ≡ got b [] → Judged K P (got s rest) b
       formed s rest true w q = let z : rest ≡ [] = cc in record { slip = s; read = ap (got s) z; formed = w; says = cc; goes = rw w }
       formed s rest false w q = absurd (let z : _≡_ {A = ℕ} 0 1 = cc in omega arith)
 
-      go : (r : Read Slip) → after r (judgedOn S) ≡ got b [] → Judged K S r b
-      go (got s rest) q = formed s rest (wellFormed S s) refl q
+      go : (r : Read Slip) → after r (judgedOn (sheetOn P)) ≡ got b [] → Judged K P r b
+      go (got s rest) q = formed s rest (wellFormed (sheetOn P) s) refl q
       go (refuse w) q = absurd (let z : _≡_ {A = ℕ} 0 1 = cc in omega arith)
 
   -- where check says no, put refuses with 20
-  pub put-by-check-no : after (readSlip slip) (judgedOn S) ≡ got false [] → after (readSlip slip) (putSlip K S) ≡ refuse 20
+  pub put-by-check-no : after (readSlip slip) (judgedOn (sheetOn P)) ≡ got false [] → after (readSlip slip) (putSlip K P) ≡ refuse 20
   unfolding putIn
   put-by-check-no q =
       let j = by-check false q in
-      j .goes ∙ rw (false-back (shelvable S (j .slip)) (holds S (j .slip)) (λ v. shelvable-exact S (j .slip) .0 v .yes) (j .says))
+      j .goes ∙ rw (false-back (shelvable (sheetOn P) (j .slip)) (holds (sheetOn P) (j .slip)) (λ v. shelvable-exact (sheetOn P) (j .slip) .0 v .yes) (j .says))
 
   -- where check says yes, put goes on with the slip
-  pub put-by-check-yes : after (readSlip slip) (judgedOn S) ≡ got true [] → Judged K S (readSlip slip) true
+  pub put-by-check-yes : after (readSlip slip) (judgedOn (sheetOn P)) ≡ got true [] → Judged K P (readSlip slip) true
   put-by-check-yes q = by-check true q
 
 -- put's own refusals, and ask's
@@ -153,11 +154,11 @@ askRefusals = 22 ∷ []
 pub put-drawn : (K : Shelf) (sheet slip : List ℕ) → Refusing (AmongThese putRefusals) (putOn K sheet slip)
 unfolding putOn putSlip putIn entered placed member
 put-drawn K sheet slip =
-    after-refusing P (taken sheet) (λ S rest. after (readSlip slip) (putSlip K S)) (taken-refusing-these putRefusals sheet)
-    (λ S rest. after-refusing P (readSlip slip) (putSlip K S) (slip-refusing putRefusals slip refl)
-    (λ s rest. pick-either (Refusing P) (wellFormed S s) (putIn K S s) (refuse 18)
-    (pick-either (Refusing P) (shelvable S s) (pick (fitsBase K S) (entered K (baseOf S) (nogoodOf (S .limit) s)) (refuse 22)) (refuse 20)
-    (pick-either (Refusing P) (fitsBase K S) (entered K (baseOf S) (nogoodOf (S .limit) s)) (refuse 22) (enters (baseOf S) (nogoodOf (S .limit) s)) (inr refl)) (inr refl)) (inr refl)))
+    after-refusing P (page sheet) (λ Q rest. after (readSlip slip) (putSlip K Q)) (page-refusing-these putRefusals sheet)
+    (λ Q rest. after-refusing P (readSlip slip) (putSlip K Q) (slip-refusing putRefusals slip refl)
+    (λ s rest. pick-either (Refusing P) (wellFormed (sheetOn Q) s) (putIn K Q s) (refuse 18)
+    (pick-either (Refusing P) (shelvable (sheetOn Q) s) (pick (fitsBase K (baseOf Q)) (entered K (baseOf Q) (nogoodOf (sheetOn Q .limit) s)) (refuse 22)) (refuse 20)
+    (pick-either (Refusing P) (fitsBase K (baseOf Q)) (entered K (baseOf Q) (nogoodOf (sheetOn Q .limit) s)) (refuse 22) (enters (baseOf Q) (nogoodOf (sheetOn Q .limit) s)) (inr refl)) (inr refl)) (inr refl)))
   where
     P : ℕ → Type 0
     P = AmongThese putRefusals
@@ -172,8 +173,8 @@ put-drawn K sheet slip =
 pub ask-drawn : (K : Shelf) (sheet : List ℕ) → Refusing (AmongThese askRefusals) (askOn K sheet)
 unfolding askOn askIn member
 ask-drawn K sheet =
-    after-refusing (AmongThese askRefusals) (taken sheet) (askIn K) (taken-refusing-these askRefusals sheet)
-    (λ S rest. pick-either (Refusing (AmongThese askRefusals)) (fitsBase K S) (got (earliest (λ k. applies k S) (K .slips)) rest) (refuse 22) tt (inr refl))
+    after-refusing (AmongThese askRefusals) (page sheet) (askIn K) (page-refusing-these askRefusals sheet)
+    (λ P rest. pick-either (Refusing (AmongThese askRefusals)) (fitsBase K (baseOf P)) (got (earliest (λ k. applies k (sheetOn P)) (K .slips)) rest) (refuse 22) tt (inr refl))
 
 -- none of them is 0, and all fit the one number of a call
 pub put-fits : {e : ℕ} → AmongThese putRefusals e → (1 ≤ e) × (e ≤ 23)
@@ -213,14 +214,14 @@ ask-refuses K sheet = go (askOn K sheet) (ask-drawn K sheet)
 
 -- What a put that alters the shelf found.
 pub record Shelved (K : Shelf) (sheet slip : List ℕ) : Type 0 where
-  pub on : Sheet
-  pub took : taken sheet ≡ got on []
+  pub on : Page
+  pub took : page sheet ≡ got on []
   pub new : Slip
   pub read : readSlip slip ≡ got new []
-  pub formed : wellFormed on new ≡ true
-  pub fit : Shelvable on new
-  pub fits : fitsBase K on ≡ true
-  pub placed : Placed K (nogoodOf (on .limit) new)
+  pub formed : wellFormed (sheetOn on) new ≡ true
+  pub fit : Shelvable (sheetOn on) new
+  pub fits : fitsBase K (baseOf on) ≡ true
+  pub placed : Placed K (nogoodOf (sheetOn on .limit) new)
 
 pub pick-got : {A : Type 0} (t : Bool) (r : Read A) (e : ℕ) (a : A) (rest : List ℕ) → pick t r (refuse e) ≡ got a rest → (t ≡ true) × (r ≡ got a rest)
 pick-got true r e a rest q = (refl, q)
@@ -228,21 +229,22 @@ pick-got false r e a rest q = absurd (let z : _≡_ {A = ℕ} 0 1 = cc in omega 
 
 -- What holds of the shelf as it was, and of the shelf with the newcomer, holds of the shelf after a put.
 module _ (P : Shelf → Type 0) (K : Shelf) (sheet slip : List ℕ) (stays : P K)
-    (altered : (p : Shelved K sheet slip) → P (behind K (baseOf (p .on)) (nogoodOf (p .on .limit) (p .new)))) where
+    (altered : (p : Shelved K sheet slip) → P (behind K (baseOf (p .on)) (nogoodOf (sheetOn (p .on) .limit) (p .new)))) where
   put-got : (L : Shelf) (rest : List ℕ) → putOn K sheet slip ≡ got L rest → P L
   unfolding putOn putSlip putIn
   put-got L rest e =
-      let a = after-got (taken sheet) (λ S rest. after (readSlip slip) (putSlip K S)) L rest e in
-      let S : Sheet = a .0 in
-      let b = after-got (readSlip slip) (putSlip K S) L rest (a .3) in
+      let a = after-got (page sheet) (λ Q rest. after (readSlip slip) (putSlip K Q)) L rest e in
+      let Q : Page = a .0 in
+      let S : Sheet = sheetOn Q in
+      let b = after-got (readSlip slip) (putSlip K Q) L rest (a .3) in
       let s : Slip = b .0 in
-      let w = pick-got (wellFormed S s) (putIn K S s) 18 L rest (b .3) in
-      let v = pick-got (shelvable S s) (pick (fitsBase K S) (entered K (baseOf S) (nogoodOf (S .limit) s)) (refuse 22)) 20 L rest (w .1) in
-      let f = pick-got (fitsBase K S) (entered K (baseOf S) (nogoodOf (S .limit) s)) 22 L rest (v .1) in
+      let w = pick-got (wellFormed S s) (putIn K Q s) 18 L rest (b .3) in
+      let v = pick-got (shelvable S s) (pick (fitsBase K (baseOf Q)) (entered K (baseOf Q) (nogoodOf (S .limit) s)) (refuse 22)) 20 L rest (w .1) in
+      let f = pick-got (fitsBase K (baseOf Q)) (entered K (baseOf Q) (nogoodOf (S .limit) s)) 22 L rest (v .1) in
       let shelved : Placed K (nogoodOf (S .limit) s) → Shelved K sheet slip =
       λ p. record {
-        on = S;
-        took = a .2 ∙ ap (got S) (taken-got sheet S (a .1) (a .2) .1);
+        on = Q;
+        took = a .2 ∙ ap (got Q) (page-got sheet Q (a .1) (a .2) .1);
         new = s;
         read = b .2 ∙ ap (got s) (slip-read slip s (b .1) (b .2) .2);
         formed = w .0;
@@ -250,7 +252,7 @@ module _ (P : Shelf → Type 0) (K : Shelf) (sheet slip : List ℕ) (stays : P K
         fits = f .0;
         placed = p;
       } in
-      go (baseOf S) (nogoodOf (S .limit) s) (λ p. altered (shelved p)) (entered-got K (baseOf S) (nogoodOf (S .limit) s) L rest (f .1))
+      go (baseOf Q) (nogoodOf (S .limit) s) (λ p. altered (shelved p)) (entered-got K (baseOf Q) (nogoodOf (S .limit) s) L rest (f .1))
     where
       go : (base : Base) (new : Nogood) → (Placed K new → P (behind K base new)) → Entered K base new L → P L
       go base new h (covered a q) = subst P (sym q) stays
@@ -267,7 +269,7 @@ module _ (P : Shelf → Type 0) (K : Shelf) (sheet slip : List ℕ) (stays : P K
 
 -- So what holds of shelves without slips and is kept by every newcomer holds of every shelf that is reached.
 pub reached-keeps : (P : Shelf → Type 0) → ((K : Shelf) → K .slips ≡ [] → P K)
-    → ((K : Shelf) (sheet slip : List ℕ) → P K → (p : Shelved K sheet slip) → P (behind K (baseOf (p .on)) (nogoodOf (p .on .limit) (p .new)))) → {K : Shelf} → Reached K → P K
+    → ((K : Shelf) (sheet slip : List ℕ) → P K → (p : Shelved K sheet slip) → P (behind K (baseOf (p .on)) (nogoodOf (sheetOn (p .on) .limit) (p .new)))) → {K : Shelf} → Reached K → P K
 reached-keeps P h g (made e) = h _ e
 reached-keeps P h g (puts {K} r sheet work slip) =
     let p : P K = reached-keeps P h g r in

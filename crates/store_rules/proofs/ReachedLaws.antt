@@ -17,19 +17,19 @@ use Rattle.varint.proofs.VarintLaws.{after-got, got-both}
 use Rattle.varint.specs.Varint.{got, refuse, after}
 use Rattle.walks.specs.Graph.{itemCount}
 use Rattle.walks.specs.Walk.{NoWalk}
-use Rattle.sheet.proofs.SheetLaws.{taken-got}
+use Rattle.sheet.proofs.SheetLaws.{page-got, page-taken}
 use Rattle.sheet.proofs.SlipLaws.{slip-read}
-use Rattle.sheet.specs.Reader.{taken}
+use Rattle.sheet.specs.Page.{Page, sheetOn}
+use Rattle.sheet.specs.Reader.{page}
 use Rattle.sheet.specs.Sheet.{Sheet}
 use Rattle.sheet.specs.Slip.{Slip, readSlip}
 use Rattle.pass_rules.specs.Pass.{Refuses}
-use Rattle.reason_rules.proofs.Demand3.{blocks-again}
-use Rattle.reason_rules.specs.Later.{Later}
+use Rattle.reason_rules.proofs.Demand3.{Follows, blocks-again}
 use Rattle.check_rules.proofs.CheckLaws.{check-exact, check-pass}
 use Rattle.check_rules.specs.Check.{wellFormed, holds, judgedOn, checkOn}
 use Rattle.lists.proofs.EntryLaws.{entry-none, entry-one, entry-left, entry-right, entry-append, none-exact, keep-entry, entry-keep}
 use Rattle.store_rules.proofs.PutLaws.{shelvable-exact, left, behind, Placed, Shelved, pick-got, put-by-check-yes, put-leads, reached-keeps}
-use Rattle.store_rules.proofs.ShelfLaws.{applies-exact, subsumes-applies, same-base, same-base-eq, Earliest, earliest-exact, earliest-missing, fits-exact, fits-same}
+use Rattle.store_rules.proofs.ShelfLaws.{applies-exact, subsumes-applies, same-base-exact, Earliest, earliest-exact, earliest-missing, fits-exact, fits-same}
 use Rattle.store_rules.specs.Shelf.{Nogood, Base, Shelf, baseOf, sameBase, fitsBase, subsumes, applies, nogoodOf, Found, missing, found, earliest}
 use Rattle.store_rules.specs.Store.{shelvable, placed, entered, putIn, putSlip, putOn, putOutcome, put, askIn, askOn, Reached}
 
@@ -54,18 +54,19 @@ formed-items S s w =
     below-all n (s .goals ++ s .reasons) (λ i m. ltb-true i n (every-at (λ i. ltb i n) (s .goals ++ s .reasons) i (and-true _ _ w .0) m))
 
 -- the newcomer is valid, by check's rule
-new-valid : {K : Shelf} {sheet slip : List ℕ} (p : Shelved K sheet slip) → Valid (baseOf (p .on)) (nogoodOf (p .on .limit) (p .new))
+new-valid : {K : Shelf} {sheet slip : List ℕ} (p : Shelved K sheet slip) → Valid (baseOf (p .on)) (nogoodOf (sheetOn (p .on) .limit) (p .new))
 unfolding baseOf nogoodOf checkOn judgedOn after
 new-valid {K} {sheet} {slip} p =
     let f = slip-read slip (p .new) [] (p .read) in
-    let c : checkOn sheet slip ≡ got true [] = rw (p .took, p .read, p .formed, p .fit .yes) in
+    let t = page-taken sheet (p .on) (p .took) in
+    let c : checkOn sheet slip ≡ got true [] = rw (t, p .read, p .formed, p .fit .yes) in
     let n = p .fit .kind in
     record {
       low = f .0;
       high = omega (arith, f .1);
       few = p .fit .few;
-      items = formed-items (p .on) (p .new) (p .formed);
-      blocks = check-exact sheet (p .on) (p .took) slip (p .new) (p .read) (p .formed) .0 c .reason;
+      items = formed-items (sheetOn (p .on)) (p .new) (p .formed);
+      blocks = check-exact sheet (sheetOn (p .on)) t slip (p .new) (p .read) (p .formed) .0 c .reason;
     }
 
 -- Every slip of a shelf that is reached is valid on its base.
@@ -73,13 +74,12 @@ pub reached-valid : {K : Shelf} → Reached K → (k : Nogood) → Entry k (K .s
 reached-valid r = reached-keeps (λ K. (k : Nogood) → Entry k (K .slips) → Valid (K .base) k) (λ K e k m. absurd (entry-some K m e)) step r
   where
     step : (K : Shelf) (sheet slip : List ℕ) → ((k : Nogood) → Entry k (K .slips) → Valid (K .base) k) → (p : Shelved K sheet slip) (k : Nogood)
-        → Entry k (left K (nogoodOf (p .on .limit) (p .new)) ++ (nogoodOf (p .on .limit) (p .new) ∷ [])) → Valid (baseOf (p .on)) k
+        → Entry k (left K (nogoodOf (sheetOn (p .on) .limit) (p .new)) ++ (nogoodOf (sheetOn (p .on) .limit) (p .new) ∷ [])) → Valid (baseOf (p .on)) k
     step K sheet slip h p k m =
-        let S : Sheet = p .on in
-        let new : Nogood = nogoodOf (S .limit) (p .new) in
-        let old : Entry k (K .slips) → Valid (baseOf S) k =
-        λ z. subst (λ (B : Base). Valid B k) (sym (same-base-eq (K .base) (baseOf S) (fits-same K S (p .fits) (entry-some K z)))) (h k z) in
-        ⊎-elim (λ z. old (keep-entry (λ k. not (subsumes new k)) (K .slips) z .0)) (λ z. subst (λ (k : Nogood). Valid (baseOf S) k) (sym (entry-one z)) (new-valid p))
+        let B : Base = baseOf (p .on) in
+        let new : Nogood = nogoodOf (sheetOn (p .on) .limit) (p .new) in
+        let old : Entry k (K .slips) → Valid B k = λ z. subst (λ (B : Base). Valid B k) (sym (same-base-exact (K .base) B .0 (fits-same K B (p .fits) (entry-some K z)))) (h k z) in
+        ⊎-elim (λ z. old (keep-entry (λ k. not (subsumes new k)) (K .slips) z .0)) (λ z. subst (λ (k : Nogood). Valid B k) (sym (entry-one z)) (new-valid p))
         (entry-append (left K new) m)
 
 -- none of the slips covers another
@@ -107,7 +107,7 @@ apart-last (k ∷ ks) new a h = (λ j m. ⊎-elim (a .0 j) (one j) (entry-append
 pub reached-few : {K : Shelf} → Reached K → (length (K .slips) ≤ 64) × Apart (K .slips)
 reached-few r =
     reached-keeps (λ K. (length (K .slips) ≤ 64) × Apart (K .slips)) (λ K e. subst (λ (ks : List Nogood). (length ks ≤ 64) × Apart ks) (sym e) (omega arith, tt))
-    (λ K sheet slip h p. step K (nogoodOf (p .on .limit) (p .new)) (h .1) (p .placed)) r
+    (λ K sheet slip h p. step K (nogoodOf (sheetOn (p .on) .limit) (p .new)) (h .1) (p .placed)) r
   where
     step : (K : Shelf) (new : Nogood) → Apart (K .slips) → Placed K new → (length (left K new ++ (new ∷ [])) ≤ 64) × Apart (left K new ++ (new ∷ []))
     step K new a p = (simp length-append (omega arith), apart-last (left K new) new (apart-keep (λ k. not (subsumes new k)) (K .slips) a) apart)
@@ -131,8 +131,8 @@ pub put-fixed : (K : Shelf) → (K .slips ≡ [] → ⊥) → (sheet work slip :
 put-fixed K n sheet work slip =
     put-leads (Fixed K) K sheet slip (record { base = refl; some = n })
     (λ p. record {
-      base = same-base-eq (K .base) (baseOf (p .on)) (fits-same K (p .on) (p .fits) n);
-      some = append-some (left K (nogoodOf (p .on .limit) (p .new))) (nogoodOf (p .on .limit) (p .new));
+      base = same-base-exact (K .base) (baseOf (p .on)) .0 (fits-same K (baseOf (p .on)) (p .fits) n);
+      some = append-some (left K (nogoodOf (sheetOn (p .on) .limit) (p .new))) (nogoodOf (sheetOn (p .on) .limit) (p .new));
     })
     work
 
@@ -149,6 +149,12 @@ reached-fixed n (puts {L} o sheet work slip) =
     let g = put-fixed L (f .some) sheet work slip in
     record { base = g .base ∙ f .base; some = g .some }
 
+-- The base of a reached shelf with slips is that of a sheet which was put, so that 22 tells what the sheets say apart (`same-base`).
+pub reached-base : {K : Shelf} → Reached K → (K .slips ≡ [] → ⊥) → (P : Page) × (sheet : List ℕ) × (page sheet ≡ got P []) × (K .base ≡ baseOf P)
+reached-base r =
+    reached-keeps (λ K. (K .slips ≡ [] → ⊥) → (P : Page) × (sheet : List ℕ) × (page sheet ≡ got P []) × (K .base ≡ baseOf P)) (λ K e n. absurd (n e))
+    (λ K sheet slip h p n. (p .on, sheet, p .took, refl)) r
+
 -- some slip of the shelf applies to the sheet
 abbrev pub SomeApplies : Shelf → Sheet → Type 0
 SomeApplies K S = (k : Nogood) × Entry k (K .slips) × (applies k S ≡ true)
@@ -156,68 +162,69 @@ SomeApplies K S = (k : Nogood) × Entry k (K .slips) × (applies k S ≡ true)
 -- Where a slip of the shelf applies to a sheet, one does after any put.
 pub put-keeps : (K : Shelf) (sheet work slip : List ℕ) (T : Sheet) → SomeApplies K T → SomeApplies (put K sheet work slip .shelf) T
 put-keeps K sheet work slip T w =
-    put-leads (λ L. SomeApplies L T) K sheet slip w (λ p. go (nogoodOf (p .on .limit) (p .new)) (true-or-false (subsumes (nogoodOf (p .on .limit) (p .new)) (w .0)))) work
+    put-leads (λ L. SomeApplies L T) K sheet slip w (λ p. go (nogoodOf (sheetOn (p .on) .limit) (p .new)) (true-or-false (subsumes (nogoodOf (sheetOn (p .on) .limit) (p .new)) (w .0)))) work
   where
     go : (new : Nogood) → (subsumes new (w .0) ≡ true) ⊎ (subsumes new (w .0) ≡ false) → (k : Nogood) × Entry k (left K new ++ (new ∷ [])) × (applies k T ≡ true)
     go new (inl q) = (new, entry-right (left K new) here, subsumes-applies new (w .0) T q (w .2))
     go new (inr q) = (w .0, entry-left (new ∷ []) (entry-keep (λ k. not (subsumes new k)) (K .slips) (w .1) (ap not q)), w .2)
 
-module _ (K : Shelf) (sheet : List ℕ) (S : Sheet) (a : taken sheet ≡ got S []) where
-  asked : fitsBase K S ≡ true → askOn K sheet ≡ got (earliest (λ k. applies k S) (K .slips)) []
+module _ (K : Shelf) (sheet : List ℕ) (P : Page) (a : page sheet ≡ got P []) where
+  asked : fitsBase K (baseOf P) ≡ true → askOn K sheet ≡ got (earliest (λ k. applies k (sheetOn P)) (K .slips)) []
   unfolding askOn askIn after
   asked f = rw (a, f)
 
   -- a shelf without slips has none that applies
   pub ask-empty : K .slips ≡ [] → askOn K sheet ≡ got missing []
   unfolding earliest
-  ask-empty e = asked (fits-exact K S .1 (inl e)) ∙ ap (λ (ks : List Nogood). got (earliest (λ k. applies k S) ks) []) e
+  ask-empty e = asked (fits-exact K (baseOf P) .1 (inl e)) ∙ ap (λ (ks : List Nogood). got (earliest (λ k. applies k (sheetOn P)) ks) []) e
 
-  -- one with slips refuses a sheet of another map, source or target
-  pub ask-other : (K .slips ≡ [] → ⊥) → sameBase (K .base) (baseOf S) ≡ false → askOn K sheet ≡ refuse 22
+  -- one with slips refuses a sheet of another map, of other service minutes, source or target
+  pub ask-other : (K .slips ≡ [] → ⊥) → sameBase (K .base) (baseOf P) ≡ false → askOn K sheet ≡ refuse 22
   unfolding askOn askIn after
-  ask-other n d = let z : fitsBase K S ≡ false = false-of (fitsBase K S) (λ f. true≢false (sym (fits-same K S f n) ∙ d)) in rw (a, z)
+  ask-other n d = let z : fitsBase K (baseOf P) ≡ false = false-of (fitsBase K (baseOf P)) (λ f. true≢false (sym (fits-same K (baseOf P) f n) ∙ d)) in rw (a, z)
 
   -- Otherwise ask finds exactly the earliest put slip that applies,
-  pub ask-exact : sameBase (K .base) (baseOf S) ≡ true → (k : Nogood) → (askOn K sheet ≡ got (found k) []) ↔ Earliest (λ k. applies k S) (K .slips) k
+  pub ask-exact : sameBase (K .base) (baseOf P) ≡ true → (k : Nogood) → (askOn K sheet ≡ got (found k) []) ↔ Earliest (λ k. applies k (sheetOn P)) (K .slips) k
   ask-exact s k =
-      let e = asked (fits-exact K S .1 (inr s)) in
-      let x = earliest-exact (λ k. applies k S) (K .slips) k in (
-        λ q. x .0 (got-both (earliest (λ k. applies k S) (K .slips)) (found k) [] [] (sym e ∙ q) .0),
+      let e = asked (fits-exact K (baseOf P) .1 (inr s)) in
+      let x = earliest-exact (λ k. applies k (sheetOn P)) (K .slips) k in (
+        λ q. x .0 (got-both (earliest (λ k. applies k (sheetOn P)) (K .slips)) (found k) [] [] (sym e ∙ q) .0),
         λ w. e ∙ ap (λ (f : Found). got f []) (x .1 w),
       )
 
   -- and none exactly where none applies.
-  pub ask-missing : sameBase (K .base) (baseOf S) ≡ true → (askOn K sheet ≡ got missing []) ↔ ((k : Nogood) → Entry k (K .slips) → applies k S ≡ false)
+  pub ask-missing : sameBase (K .base) (baseOf P) ≡ true → (askOn K sheet ≡ got missing []) ↔ ((k : Nogood) → Entry k (K .slips) → applies k (sheetOn P) ≡ false)
   ask-missing s =
-      let e = asked (fits-exact K S .1 (inr s)) in
-      let x = earliest-missing (λ k. applies k S) (K .slips) in
-      let y = none-exact (λ k. applies k S) (K .slips) in (
-        λ q. y .0 (x .0 (got-both (earliest (λ k. applies k S) (K .slips)) missing [] [] (sym e ∙ q) .0)),
+      let e = asked (fits-exact K (baseOf P) .1 (inr s)) in
+      let x = earliest-missing (λ k. applies k (sheetOn P)) (K .slips) in
+      let y = none-exact (λ k. applies k (sheetOn P)) (K .slips) in (
+        λ q. y .0 (x .0 (got-both (earliest (λ k. applies k (sheetOn P)) (K .slips)) missing [] [] (sym e ∙ q) .0)),
         λ h. e ∙ ap (λ (f : Found). got f []) (x .1 (y .1 h)),
       )
 
 -- what ask finds is a slip of the shelf that applies to the sheet, which has the shelf's base
 pub record Asked (K : Shelf) (sheet : List ℕ) (k : Nogood) : Type 0 where
-  pub on : Sheet
-  pub took : taken sheet ≡ got on []
+  pub on : Page
+  pub took : page sheet ≡ got on []
   pub entry : Entry k (K .slips)
-  pub applied : applies k on ≡ true
+  pub applied : applies k (sheetOn on) ≡ true
   pub same : sameBase (K .base) (baseOf on) ≡ true
 
 pub ask-found : (K : Shelf) (sheet : List ℕ) (k : Nogood) (rest : List ℕ) → askOn K sheet ≡ got (found k) rest → Asked K sheet k
 unfolding askOn askIn
 ask-found K sheet k rest e =
-    let a = after-got (taken sheet) (askIn K) (found k) rest e in
-    let S : Sheet = a .0 in
-    let p = pick-got (fitsBase K S) (got (earliest (λ k. applies k S) (K .slips)) (a .1)) 22 (found k) rest (a .3) in
+    let a = after-got (page sheet) (askIn K) (found k) rest e in
+    let P : Page = a .0 in
+    let S : Sheet = sheetOn P in
+    let p = pick-got (fitsBase K (baseOf P)) (got (earliest (λ k. applies k S) (K .slips)) (a .1)) 22 (found k) rest (a .3) in
     let w = earliest-exact (λ k. applies k S) (K .slips) k .0 (got-both (earliest (λ k. applies k S) (K .slips)) (found k) (a .1) rest (p .1) .0) in
     let m : Entry k (K .slips) = subst (λ (ks : List Nogood). Entry k ks) (sym (w .parts)) (entry-right (w .before) here) in
     record {
-      on = S;
-      took = a .2 ∙ ap (got S) (taken-got sheet S (a .1) (a .2) .1);
+      on = P;
+      took = a .2 ∙ ap (got P) (page-got sheet P (a .1) (a .2) .1);
       entry = m;
       applied = w .passes;
-      same = fits-same K S (p .0) (entry-some K m);
+      same = fits-same K (baseOf P) (p .0) (entry-some K m);
     }
 
 -- Where ask finds a slip, the pass refuses the sheet's round.
@@ -225,11 +232,19 @@ pub asked-refused : (K : Shelf) (sheet : List ℕ) (k : Nogood) (rest : List ℕ
 unfolding baseOf
 asked-refused K sheet k rest r e =
     let q = ask-found K sheet k rest e in
-    let T : Sheet = q .on in
-    let b = same-base (K .base) (baseOf T) .0 (q .same) in
+    let T : Sheet = sheetOn (q .on) in
+    let b = same-base-exact (K .base) (baseOf (q .on)) .0 (q .same) in
     let w = applies-exact k T .0 (q .applied) in
     let S : Sheet = record { graph = K .base .graph; source = K .base .source; target = K .base .target; limit = k .limit; marks = [] } in
-    let l : Later S (k .reasons) sheet T = record { took = q .took; map = b .0; source = b .1; target = b .2; closed = w .closed; limit = w .limit } in
+    let l : Follows S (k .reasons) sheet T =
+    record {
+      took = page-taken sheet (q .on) (q .took);
+      graph = ap (λ (B : Base). B .graph) b;
+      source = ap (λ (B : Base). B .source) b;
+      target = ap (λ (B : Base). B .target) b;
+      closed = w .closed;
+      limit = w .limit;
+    } in
     blocks-again S (k .reasons) (k .goals) sheet T (reached-valid r k (q .entry) .blocks) l (w .demanded)
 
 -- there is room: a newcomer goes on a shelf with fewer than 64 slips, or is covered there
@@ -244,20 +259,23 @@ entered-room K base new h = go (any (λ k. subsumes k new) (K .slips))
         let z : ltb (length (left K new)) 64 ≡ true = lt-ltb (length (left K new)) 64 (omega arith) in
         (behind K base new, rw z)
 
--- What the pass writes for a refused round can be put on every shelf for that map, source and target that has room, if it has at most 24 goals and reasons.
-pub put-pass : (K : Shelf) (sheet : List ℕ) (S : Sheet) → taken sheet ≡ got S [] → (s : Slip) (r : Refuses sheet s)
-    → (K .slips ≡ []) ⊎ (sameBase (K .base) (baseOf S) ≡ true) → length (K .slips) < 64 → length (s .goals) + length (s .reasons) ≤ 24
+-- What the pass writes for a refused round can be put on every shelf for that map, its service minutes, source and target that has room, if it has at most 24
+-- goals and reasons.
+pub put-pass : (K : Shelf) (sheet : List ℕ) (P : Page) → page sheet ≡ got P [] → (s : Slip) (r : Refuses sheet s)
+    → (K .slips ≡ []) ⊎ (sameBase (K .base) (baseOf P) ≡ true) → length (K .slips) < 64 → length (s .goals) + length (s .reasons) ≤ 24
     → (work : List ℕ) → 16384 ≤ length work → put K sheet work (r .slip) .number ≡ 0
 unfolding put putOn putOutcome putIn after checkOn
-put-pass K sheet S a s r f room few work h =
-    let c : after (readSlip (r .slip)) (judgedOn S) ≡ got true [] = rw a at (check-pass sheet S a s r) in
-    let j = put-by-check-yes K S (r .slip) c in
+put-pass K sheet P a s r f room few work h =
+    let S : Sheet = sheetOn P in
+    let t = page-taken sheet P a in
+    let c : after (readSlip (r .slip)) (judgedOn S) ≡ got true [] = rw t at (check-pass sheet S t s r) in
+    let j = put-by-check-yes K P (r .slip) c in
     let same : j .slip ≡ s = got-both (j .slip) s [] [] (sym (j .read) ∙ r .says) .0 in
     let yes : holds S s ≡ true = ap (holds S) (sym same) ∙ j .says in
-    let goes : after (readSlip (r .slip)) (putSlip K S) ≡ putIn K S s = j .goes ∙ ap (putIn K S) same in
+    let goes : after (readSlip (r .slip)) (putSlip K P) ≡ putIn K P s = j .goes ∙ ap (putIn K P) same in
     let fit : shelvable S s ≡ true = shelvable-exact S s .1 (record { yes = yes; kind = λ q. absurd (omega (arith, r .high)); few = few }) in
-    let base : fitsBase K S ≡ true = fits-exact K S .1 f in
+    let base : fitsBase K (baseOf P) ≡ true = fits-exact K (baseOf P) .1 f in
     let enough : ltb (length work) 16384 ≡ false = le-ltb (length work) 16384 h in
-    let e = entered-room K (baseOf S) (nogoodOf (S .limit) s) room in
-    let t : putOn K sheet (r .slip) ≡ got (e .0) [] = rw (a, goes, fit, base) (e .1) in
-    rw (enough, t)
+    let e = entered-room K (baseOf P) (nogoodOf (S .limit) s) room in
+    let p : putOn K sheet (r .slip) ≡ got (e .0) [] = rw (a, goes, fit, base) (e .1) in
+    rw (enough, p)

@@ -1,4 +1,5 @@
--- When a slip applies to a sheet and when it covers another, entry by entry; when two bases are one; and what the earliest slip is. Assumes nothing.
+-- When a slip applies to a sheet and when it covers another, entry by entry; when two bases are one, which is when the sheets say the same; and what the
+-- earliest slip is. Assumes nothing.
 use Prim.Native.Nat.{ℕ, _≤_, _<_}
 use mathlib.Core.Path.{_≡_, refl, sym, ap, _∙_, subst}
 use mathlib.Core.Logic.{_⊎_, inl, inr, ⊎-elim, _↔_}
@@ -12,13 +13,15 @@ use Rattle.lists.proofs.MemberLaws.{every-at, every-all}
 use Rattle.lists.proofs.TestLaws.{and-true, true-and, or-true, or-of}
 use Rattle.lists.specs.Lists.{pick, member, every, any}
 use Rattle.sheet.proofs.MarkLaws.{required-mandatory, mandatory-mark, forbidden-mark, marked-item}
+use Rattle.sheet.proofs.PageLaws.{count-on, tail-on, head-on, weight-on}
 use Rattle.sheet.specs.Good.{All}
+use Rattle.sheet.specs.Page.{serviceOf, Page, sheetOn}
 use Rattle.sheet.specs.Sheet.{Sheet, markOf, isMandatory, isForbidden, required}
-use Rattle.reason_rules.proofs.Demand3.{map-eq, demanded-mandatory}
+use Rattle.reason_rules.proofs.Demand3.{graph-on, demanded-mandatory}
 use Rattle.reason_rules.specs.Later.{SameMap, Demanded}
 use Rattle.walks.proofs.FlatLaws.{arcs-flat}
 use Rattle.walks.specs.Flat.{arcsOf, flat}
-use Rattle.walks.specs.Graph.{Graph, Arc, itemCount}
+use Rattle.walks.specs.Graph.{Graph, Arc, tailOf, headOf, weightOf, itemCount}
 use Rattle.lists.proofs.EntryLaws.{every-same, subset-exact, alike-exact}
 use Rattle.store_rules.specs.Shelf.{Nogood, Base, Shelf, baseOf, sameBase, isEmpty, fitsBase, subsumes, applies, missing, found, earliest}
 
@@ -122,43 +125,80 @@ subsumes-applies a b S p e =
     applies-exact a S .1
     (record { closed = λ r m. t .closed r (s .reasons r m); demanded = λ g m. t .demanded g (s .goals g m); limit = omega arith })
 
-base-eq : (a b : Base) → b .graph ≡ a .graph → b .source ≡ a .source → b .target ≡ a .target → b ≡ a
-base-eq a b p q r =
-    ap {B = Base} (λ (G : Graph). record { graph = G; source = b .source; target = b .target }) p
-    ∙ ap {B = Base} (λ (s : ℕ). record { graph = a .graph; source = s; target = b .target }) q
-    ∙ ap {B = Base} (λ (t : ℕ). record { graph = a .graph; source = a .source; target = t }) r
+base-eq : (a b : Base) → b .graph ≡ a .graph → b .services ≡ a .services → b .source ≡ a .source → b .target ≡ a .target → b ≡ a
+base-eq a b p q r t =
+    ap {B = Base} (λ (G : Graph). record { graph = G; services = b .services; source = b .source; target = b .target }) p
+    ∙ ap {B = Base} (λ (ss : List ℕ). record { graph = a .graph; services = ss; source = b .source; target = b .target }) q
+    ∙ ap {B = Base} (λ (s : ℕ). record { graph = a .graph; services = a .services; source = s; target = b .target }) r
+    ∙ ap {B = Base} (λ (t : ℕ). record { graph = a .graph; services = a .services; source = a .source; target = t }) t
 
 -- the test of two bases finds equal ones
-pub same-base-eq : (a b : Base) → sameBase a b ≡ true → b ≡ a
+same-base-eq : (a b : Base) → sameBase a b ≡ true → b ≡ a
 unfolding sameBase
 same-base-eq a b e =
     let p = and-true _ _ e in
     let q = and-true _ _ (p .1) in
-    let r = and-true _ _ (q .1) in
+    let u = and-true _ _ (q .1) in
+    let r = and-true _ _ (u .1) in
     let n : b .graph .nodes ≡ a .graph .nodes = sym (eqb-true (a .graph .nodes) (b .graph .nodes) (p .0)) in
     let f : flat (b .graph .arcs) ≡ flat (a .graph .arcs) = sym (alike-exact (flat (a .graph .arcs)) (flat (b .graph .arcs)) .0 (q .0)) in
     let x : b .graph .arcs ≡ a .graph .arcs = sym (arcs-flat (b .graph .arcs)) ∙ ap arcsOf f ∙ arcs-flat (a .graph .arcs) in
     let g : b .graph ≡ a .graph =
     ap {B = Graph} (λ (n : ℕ). record { nodes = n; arcs = b .graph .arcs }) n ∙ ap {B = Graph} (λ (xs : List Arc). record { nodes = a .graph .nodes; arcs = xs }) x in
-    base-eq a b g (sym (eqb-true (a .source) (b .source) (r .0))) (sym (eqb-true (a .target) (b .target) (r .1)))
+    base-eq a b g (sym (alike-exact (a .services) (b .services) .0 (u .0))) (sym (eqb-true (a .source) (b .source) (r .0))) (sym (eqb-true (a .target) (b .target) (r .1)))
 
 same-base-self : (a : Base) → sameBase a a ≡ true
 unfolding sameBase
 same-base-self a =
     true-and (eq-eqb (a .graph .nodes) (a .graph .nodes) refl)
     (true-and (alike-exact (flat (a .graph .arcs)) (flat (a .graph .arcs)) .1 refl)
-    (true-and (eq-eqb (a .source) (a .source) refl) (eq-eqb (a .target) (a .target) refl)))
+    (true-and (alike-exact (a .services) (a .services) .1 refl)
+    (true-and (eq-eqb (a .source) (a .source) refl) (eq-eqb (a .target) (a .target) refl))))
 
--- one map, source and target
-abbrev pub SameBase : Base → Base → Type 0
-SameBase a b = SameMap (a .graph) (b .graph) × (b .source ≡ a .source) × (b .target ≡ a .target)
+-- and them alone
+pub same-base-exact : (a b : Base) → (sameBase a b ≡ true) ↔ (b ≡ a)
+same-base-exact a b = (same-base-eq a b, λ e. subst (λ (c : Base). sameBase a c ≡ true) (sym e) (same-base-self a))
 
-pub same-base : (a b : Base) → (sameBase a b ≡ true) ↔ SameBase a b
-same-base a b = (
-  λ e. subst (λ (c : Base). SameBase a c) (sym (same-base-eq a b e))
-      (record { nodes = refl; count = refl; tails = λ l h. refl; heads = λ l h. refl; weights = λ l h. refl }, refl, refl),
-  λ s. subst (λ (c : Base). sameBase a c ≡ true) (sym (base-eq a b (map-eq (a .graph) (b .graph) (s .0)) (s .1) (s .2))) (same-base-self a),
-)
+-- Where the service minutes agree, equal stored arcs are equal minutes: a weight less the service minutes of its head.
+pub stored-same : (P Q : Page) → Q .services ≡ P .services → sheetOn Q .graph ≡ sheetOn P .graph → SameMap (P .says .graph) (Q .says .graph)
+unfolding sheetOn
+stored-same P Q s g =
+    record { nodes = ap (λ (G : Graph). G .nodes) g; count = count; tails = tails; heads = heads; weights = weights }
+  where
+    count : length (Q .says .graph .arcs) ≡ length (P .says .graph .arcs)
+    count = sym (count-on Q) ∙ ap (λ (G : Graph). length (G .arcs)) g ∙ count-on P
+
+    tails : (l : ℕ) → l < length (P .says .graph .arcs) → tailOf (Q .says .graph) l ≡ tailOf (P .says .graph) l
+    tails l h = sym (tail-on Q l) ∙ ap (λ (G : Graph). tailOf G l) g ∙ tail-on P l
+
+    heads : (l : ℕ) → l < length (P .says .graph .arcs) → headOf (Q .says .graph) l ≡ headOf (P .says .graph) l
+    heads l h = sym (head-on Q l) ∙ ap (λ (G : Graph). headOf G l) g ∙ head-on P l
+
+    weights : (l : ℕ) → l < length (P .says .graph .arcs) → weightOf (Q .says .graph) l ≡ weightOf (P .says .graph) l
+    weights l h =
+        let v : serviceOf (Q .services) (headOf (Q .says .graph) l) ≡ serviceOf (P .services) (headOf (P .says .graph) l) =
+        ap (λ (ss : List ℕ). serviceOf ss (headOf (Q .says .graph) l)) s ∙ ap (serviceOf (P .services)) (heads l h) in
+        let w : weightOf (sheetOn Q .graph) l ≡ weightOf (sheetOn P .graph) l = ap (λ (G : Graph). weightOf G l) g in
+        omega (arith, weight-on P l h, weight-on Q l (rw count h), v, w)
+
+-- one map with its service minutes, one source and target
+abbrev pub SameBase : Page → Page → Type 0
+SameBase P Q =
+    SameMap (P .says .graph) (Q .says .graph) × (Q .services ≡ P .services) × (Q .says .source ≡ P .says .source) × (Q .says .target ≡ P .says .target)
+
+-- The bases of two sheets are one exactly where the sheets say the same map, service minutes, source and target.
+pub same-base : (P Q : Page) → (sameBase (baseOf P) (baseOf Q) ≡ true) ↔ SameBase P Q
+unfolding baseOf sheetOn
+same-base P Q = (is, same)
+  where
+    is : sameBase (baseOf P) (baseOf Q) ≡ true → SameBase P Q
+    is e =
+        let b = same-base-exact (baseOf P) (baseOf Q) .0 e in
+        let s : Q .services ≡ P .services = ap (λ (B : Base). B .services) b in
+        (stored-same P Q s (ap (λ (B : Base). B .graph) b), s, ap (λ (B : Base). B .source) b, ap (λ (B : Base). B .target) b)
+
+    same : SameBase P Q → sameBase (baseOf P) (baseOf Q) ≡ true
+    same s = same-base-exact (baseOf P) (baseOf Q) .1 (base-eq (baseOf P) (baseOf Q) (graph-on P Q (s .0) (s .1)) (s .1) (s .2) (s .3))
 
 -- k is the first of the slips that pass the test
 pub record Earliest (f : Nogood → Bool) (ks : List Nogood) (k : Nogood) : Type 0 where
@@ -195,15 +235,15 @@ module _ (f : Nogood → Bool) where
       go true ih = (λ e. absurd (let z : _≡_ {A = ℕ} 0 1 = cc in omega arith), λ e. absurd (true≢false e))
       go false ih = ih
 
--- a shelf is for a sheet where it has no slips, or the sheet's map, source and target
-pub fits-exact : (K : Shelf) (S : Sheet) → (fitsBase K S ≡ true) ↔ ((K .slips ≡ []) ⊎ (sameBase (K .base) (baseOf S) ≡ true))
+-- a shelf is for a base where it has no slips, or this base
+pub fits-exact : (K : Shelf) (base : Base) → (fitsBase K base ≡ true) ↔ ((K .slips ≡ []) ⊎ (sameBase (K .base) base ≡ true))
 unfolding fitsBase isEmpty
-fits-exact K S = go (K .slips)
+fits-exact K base = go (K .slips)
   where
-    go : (ks : List Nogood) → ((isEmpty ks || sameBase (K .base) (baseOf S)) ≡ true) ↔ ((ks ≡ []) ⊎ (sameBase (K .base) (baseOf S) ≡ true))
+    go : (ks : List Nogood) → ((isEmpty ks || sameBase (K .base) base) ≡ true) ↔ ((ks ≡ []) ⊎ (sameBase (K .base) base ≡ true))
     go [] = (λ e. inl refl, λ e. refl)
     go (k ∷ ks) = (inr, ⊎-elim (λ q. absurd (let z : _≡_ {A = ℕ} 0 1 = cc in omega arith)) (λ q. q))
 
 -- where there are slips the bases are one
-pub fits-same : (K : Shelf) (S : Sheet) → fitsBase K S ≡ true → (K .slips ≡ [] → ⊥) → sameBase (K .base) (baseOf S) ≡ true
-fits-same K S f n = ⊎-elim (λ q. absurd (n q)) (λ q. q) (fits-exact K S .0 f)
+pub fits-same : (K : Shelf) (base : Base) → fitsBase K base ≡ true → (K .slips ≡ [] → ⊥) → sameBase (K .base) base ≡ true
+fits-same K base f n = ⊎-elim (λ q. absurd (n q)) (λ q. q) (fits-exact K base .0 f)

@@ -1,5 +1,5 @@
--- A shelf of reasons (document 02, request 2.6): slips of refused rounds that are kept for later sheets of one map, start and finish. In the code a shelf is a
--- nogood store, a slip on it a nogood, and to cover is to subsume.
+-- A shelf of reasons (document 02, requests 2.6 and 2.7): slips of refused rounds that are kept for later sheets of one map with its service minutes, start and
+-- finish. In the code a shelf is a nogood store, a slip on it a nogood, and to cover is to subsume.
 use Prim.Native.Nat.{ℕ}
 use mathlib.Core.Bool.{Bool, true, false, _&&_, _||_}
 use mathlib.Core.List.{List, [], _∷_}
@@ -7,6 +7,7 @@ use lib.Dec.{eqb, leb}
 use Rattle.lists.specs.Lists.{pick, member, every, subset, alike}
 use Rattle.walks.specs.Flat.{flat}
 use Rattle.walks.specs.Graph.{Graph}
+use Rattle.sheet.specs.Page.{Page, sheetOn}
 use Rattle.sheet.specs.Sheet.{Sheet, isMandatory, isForbidden, required}
 use Rattle.sheet.specs.Slip.{Slip}
 
@@ -17,9 +18,10 @@ pub record Nogood : Type 0 where
   pub goals : List ℕ
   pub reasons : List ℕ
 
--- What a shelf is for: one map, source and target.
+-- What a shelf is for: one map, source and target. The graph is what a sheet means, so that an arc's weight is its minutes and the service minutes of its head.
 pub record Base : Type 0 where
   pub graph : Graph
+  pub services : List ℕ
   pub source : ℕ
   pub target : ℕ
 
@@ -28,22 +30,23 @@ pub record Shelf : Type 0 where
   pub base : Base
   pub slips : List Nogood
 
-unfoldable pub baseOf : Sheet → Base
-baseOf S = record { graph = S .graph; source = S .source; target = S .target }
+unfoldable pub baseOf : Page → Base
+baseOf P = record { graph = sheetOn P .graph; services = P .services; source = sheetOn P .source; target = sheetOn P .target }
 
--- the same nodes, the same arcs one by one, tail, head and minutes, and the same source and target
+-- the same nodes, the same arcs one by one, tail, head and weight, the same service minutes, and the same source and target
 unfoldable pub sameBase : Base → Base → Bool
 sameBase a b =
     eqb (a .graph .nodes) (b .graph .nodes)
-    && (alike (flat (a .graph .arcs)) (flat (b .graph .arcs)) && (eqb (a .source) (b .source) && eqb (a .target) (b .target)))
+    && (alike (flat (a .graph .arcs)) (flat (b .graph .arcs))
+    && (alike (a .services) (b .services) && (eqb (a .source) (b .source) && eqb (a .target) (b .target))))
 
 unfoldable pub isEmpty : List Nogood → Bool
 isEmpty [] = true
 isEmpty (k ∷ ks) = false
 
 -- a shelf without slips is for every sheet
-unfoldable pub fitsBase : Shelf → Sheet → Bool
-fitsBase K S = isEmpty (K .slips) || sameBase (K .base) (baseOf S)
+unfoldable pub fitsBase : Shelf → Base → Bool
+fitsBase K base = isEmpty (K .slips) || sameBase (K .base) base
 
 -- a covers b: its goals and reasons are subsets of the other's, and its limit is at least as great
 unfoldable pub subsumes : Nogood → Nogood → Bool

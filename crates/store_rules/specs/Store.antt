@@ -1,4 +1,4 @@
--- Putting a slip on a shelf and asking a shelf (document 02, request 2.6): the answers on every input, what a call leaves, and which shelves are reached.
+-- Putting a slip on a shelf and asking a shelf (document 02, requests 2.6 and 2.7): the answers on every input, what a call leaves, and which shelves are reached.
 use Prim.Native.Nat.{ℕ, _+_}
 use mathlib.Core.Path.{_≡_}
 use mathlib.Core.Bool.{Bool, not, _&&_}
@@ -7,10 +7,11 @@ use lib.ListN.{length}
 use lib.Dec.{eqb, ltb, leb}
 use Rattle.lists.specs.Lists.{pick, keep, any}
 use Rattle.varint.specs.Varint.{Read, got, refuse, after}
+use Rattle.sheet.specs.Page.{Page, sheetOn}
 use Rattle.sheet.specs.Sheet.{Sheet}
 use Rattle.sheet.specs.Slip.{Slip, readSlip}
 use Rattle.sheet.specs.Lent.{workNumbers, zeroed, workAfter}
-use Rattle.sheet.specs.Reader.{taken}
+use Rattle.sheet.specs.Reader.{page}
 use Rattle.check_rules.specs.Check.{wellFormed, holds}
 use Rattle.store_rules.specs.Shelf.{Nogood, Base, Shelf, baseOf, fitsBase, subsumes, applies, nogoodOf, Found, missing, earliest}
 
@@ -34,16 +35,17 @@ unfoldable pub entered : Shelf → Base → Nogood → Read Shelf
 entered K base new =
     pick (any (λ k. subsumes k new) (K .slips)) (got K []) (placed base (keep (λ k. not (subsumes new k)) (K .slips)) new)
 
--- 20, then 22: another map, source or target
-unfoldable pub putIn : Shelf → Sheet → Slip → Read Shelf
-putIn K S s = pick (shelvable S s) (pick (fitsBase K S) (entered K (baseOf S) (nogoodOf (S .limit) s)) (refuse 22)) (refuse 20)
+-- 20, then 22: another map, other service minutes, another source or target
+unfoldable pub putIn : Shelf → Page → Slip → Read Shelf
+putIn K P s =
+    pick (shelvable (sheetOn P) s) (pick (fitsBase K (baseOf P)) (entered K (baseOf P) (nogoodOf (sheetOn P .limit) s)) (refuse 22)) (refuse 20)
 
-unfoldable pub putSlip : Shelf → Sheet → Slip → List ℕ → Read Shelf
-putSlip K S s rest = pick (wellFormed S s) (putIn K S s) (refuse 18)
+unfoldable pub putSlip : Shelf → Page → Slip → List ℕ → Read Shelf
+putSlip K P s rest = pick (wellFormed (sheetOn P) s) (putIn K P s) (refuse 18)
 
 -- what put answers, given work of the length it asks for: 3 to 13 for the sheet, 17 and 18 for the slip, 20, 22, 23; or the new shelf
 unfoldable pub putOn : Shelf → List ℕ → List ℕ → Read Shelf
-putOn K sheet slip = after (taken sheet) (λ S rest. after (readSlip slip) (putSlip K S))
+putOn K sheet slip = after (page sheet) (λ P rest. after (readSlip slip) (putSlip K P))
 
 -- What a call gives and leaves: the refusal number, 0 where it finished; the shelf; what the work holds. Sheet and slip are only read.
 pub record Put : Type 0 where
@@ -60,13 +62,13 @@ putOutcome K (refuse e) work = record { number = e; shelf = K; work = workAfter 
 unfoldable pub put : Shelf → List ℕ → List ℕ → List ℕ → Put
 put K sheet work slip = putOutcome K (pick (ltb (length work) workNumbers) (refuse 1) (putOn K sheet slip)) work
 
--- the earliest put slip that applies (22: another map, source or target)
-unfoldable pub askIn : Shelf → Sheet → List ℕ → Read Found
-askIn K S rest = pick (fitsBase K S) (got (earliest (λ k. applies k S) (K .slips)) rest) (refuse 22)
+-- the earliest put slip that applies (22: another map, other service minutes, another source or target)
+unfoldable pub askIn : Shelf → Page → List ℕ → Read Found
+askIn K P rest = pick (fitsBase K (baseOf P)) (got (earliest (λ k. applies k (sheetOn P)) (K .slips)) rest) (refuse 22)
 
 -- what ask answers: 3 to 13 for the sheet, 22; or what it found
 unfoldable pub askOn : Shelf → List ℕ → Read Found
-askOn K sheet = after (taken sheet) (askIn K)
+askOn K sheet = after (page sheet) (askIn K)
 
 -- What a call gives: the refusal number, 0 where it finished, and what it found. The shelf and the sheet are only read.
 pub record Told : Type 0 where

@@ -79,3 +79,37 @@ groups-again (suc left) (b ∷ bs) x rest n B e = go (ltb b 128) refl e (λ y cs
 pub number-again : (bs : List ℕ) (x : ℕ) (rest : List ℕ) → Below 256 bs → readNumber bs ≡ got x rest → (bs ≡ writeNumber x ++ rest) × (x < 268435456)
 unfolding readNumber writeNumber
 number-again bs x rest B e = let s = groups-again 3 bs x rest (omega arith) B e in (s .bytes, omega (arith, s .small))
+
+-- what later groups say is not 0, whatever the bytes
+groups-some : (left : ℕ) (bs : List ℕ) (x : ℕ) (rest : List ℕ) → left < 3 → readGroups left bs ≡ got x rest → 0 < x
+unfolding readGroups above
+groups-some left [] x rest l e = absurd (let z : _≡_ {A = ℕ} 0 1 = cc in omega arith)
+groups-some zero (b ∷ bs) x rest l e = go (ltb b 128) e
+  where
+    go : (t : Bool) → pick t (lastGroup zero b bs) (refuse 4) ≡ got x rest → 0 < x
+    go true p = omega (arith, last-got zero b bs x rest p .0, last-some zero b bs x rest p l)
+    go false p = absurd (let z : _≡_ {A = ℕ} 0 1 = cc in omega arith)
+groups-some (suc left) (b ∷ bs) x rest l e = go (ltb b 128) e (λ y cs. groups-some left bs y cs (omega arith))
+  where
+    more : (r : Read ℕ) → readGroups left bs ≡ r → above b r ≡ got x rest → ((y : ℕ) (cs : List ℕ) → readGroups left bs ≡ got y cs → 0 < y) → 0 < x
+    more (refuse w) p q ih = absurd (let z : _≡_ {A = ℕ} 0 1 = cc in omega arith)
+    more (got y cs) p q ih = let v : b - 128 + 128 * y ≡ x = cc in omega (arith, ih y cs p)
+
+    go : (t : Bool) → pick t (lastGroup (suc left) b bs) (above b (readGroups left bs)) ≡ got x rest
+        → ((y : ℕ) (cs : List ℕ) → readGroups left bs ≡ got y cs → 0 < y) → 0 < x
+    go true p ih = omega (arith, last-got (suc left) b bs x rest p .0, last-some (suc left) b bs x rest p l)
+    go false p ih = more (readGroups left bs) refl p ih
+
+-- a number below 128 is read from one byte alone, which is that number
+pub low-read : (bs : List ℕ) (x : ℕ) (rest : List ℕ) → x < 128 → readNumber bs ≡ got x rest → bs ≡ x ∷ rest
+unfolding readNumber readGroups above
+low-read [] x rest l e = absurd (let z : _≡_ {A = ℕ} 0 1 = cc in omega arith)
+low-read (b ∷ bs) x rest l e = go (ltb b 128) e
+  where
+    more : (r : Read ℕ) → readGroups 2 bs ≡ r → above b r ≡ got x rest → b ∷ bs ≡ x ∷ rest
+    more (refuse w) p q = absurd (let z : _≡_ {A = ℕ} 0 1 = cc in omega arith)
+    more (got y cs) p q = absurd (let v : b - 128 + 128 * y ≡ x = cc in omega (arith, groups-some 2 bs y cs (omega arith) p))
+
+    go : (t : Bool) → pick t (lastGroup 3 b bs) (above b (readGroups 2 bs)) ≡ got x rest → b ∷ bs ≡ x ∷ rest
+    go true p = let s = last-got 3 b bs x rest p in rw (s .0, s .1)
+    go false p = more (readGroups 2 bs) refl p

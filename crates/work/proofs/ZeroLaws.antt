@@ -38,10 +38,11 @@ module _ {n : ℕ} {old work : List ℕ} {i : ℕ} (w : Zeroing n old work i) (r
         holds = rw (add-one i, zeros-more i) (push-at (zeros i) old work i 0 (w .holds) (length-zeros i) (omega arith));
       }
 
+pub zeros-front : {n : ℕ} {old work : List ℕ} {i : ℕ} → Zeroing n old work i → n ≤ i → work ≡ front (zeros n) old
+zeros-front {n} {old} {work} {i} w l = let e : i ≡ n = omega (arith, w .few) in w .holds ∙ ap (λ (k : ℕ). front (zeros k) old) e
+
 pub zeros-done : {n : ℕ} {old work : List ℕ} {i : ℕ} → Zeroing n old work i → n ≤ i → work ≡ zeros n ++ drop n old
-zeros-done {n} {old} {work} {i} w l =
-    let e : i ≡ n = omega (arith, w .few) in
-    w .holds ∙ ap (λ (k : ℕ). zeros i ++ drop k old) (length-zeros i) ∙ ap (λ (k : ℕ). zeros k ++ drop k old) e
+zeros-done {n} {old} {work} {i} w l = zeros-front w l ∙ ap (λ (k : ℕ). zeros n ++ drop k old) (length-zeros n)
 
 pub zero-done : {old work : List ℕ} {i : ℕ} → Zeroing 16384 old work i → 16384 ≤ i → work ≡ zeroed old
 unfolding zeroed

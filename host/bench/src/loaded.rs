@@ -1,10 +1,11 @@
 //! An archive of the library made a shared object by `cc` and loaded, so that two can be timed in one run though their names are the same. Both are loaded
 //! alike: where a linker puts the code changes the time of some sheets by a third.
 
+use cases::{served_b, Draft};
 use std::ffi::{c_char, c_int, c_void, CString};
 use std::path::Path;
 use std::process::Command;
-use ways::Store;
+use ways::{Store, SLIP_BYTES, WORK_BYTES};
 
 extern "C" {
     fn dlopen(file: *const c_char, mode: c_int) -> *mut c_void;
@@ -16,12 +17,13 @@ const NOW: c_int = 2;
 
 type Call = unsafe extern "C" fn(*const u8, usize, *mut u8, usize, *mut u8, usize) -> u32;
 type CallItem = unsafe extern "C" fn(*const u8, usize, *mut u8, usize, *mut u8, usize, u32) -> u32;
-type CallDraft = unsafe extern "C" fn(u32, u32, u32, u32, u32, *const u32, usize, *const u8, usize, *mut u8, usize) -> u32;
+type CallDraft = unsafe extern "C" fn(u32, u32, u32, u32, u32, *const u32, usize, *const u8, usize, *const u32, usize, *mut u8, usize) -> u32;
 type CallSlip = unsafe extern "C" fn(*const u8, usize, *mut u8, usize, *const u8, usize) -> u32;
 type CallPut = unsafe extern "C" fn(*mut Store, *const u8, usize, *mut u8, usize, *const u8, usize) -> u32;
 type CallAsk = unsafe extern "C" fn(*const Store, *const u8, usize, *mut u8, usize) -> u32;
 
-/// The functions of the library; one made before the writer or the shelf has none.
+/// The functions of the library. One made before the writer or the shelf has none; one made before service minutes has a writer and a shelf that are lent other
+/// things, and they are left alone.
 #[derive(Clone, Copy)]
 pub struct Loaded {
     pass: Call,
@@ -54,9 +56,12 @@ impl Loaded {
             (!found.is_null()).then_some(found)
         };
         let find = |name: &str| look(name).unwrap_or_else(|| panic!("{name} is not in {}", archive.display()));
+        let pass = unsafe { std::mem::transmute::<*mut c_void, Call>(find("ways_pass")) };
+        let knows_services = takes_services(pass);
+        let look = |name: &str| look(name).filter(|_| knows_services);
         unsafe {
             Loaded {
-                pass: std::mem::transmute::<*mut c_void, Call>(find("ways_pass")),
+                pass,
                 reason: std::mem::transmute::<*mut c_void, CallItem>(find("ways_reason")),
                 check: std::mem::transmute::<*mut c_void, CallSlip>(find("ways_check")),
                 write: look("ways_write").map(|found| std::mem::transmute::<*mut c_void, CallDraft>(found)),
@@ -82,10 +87,12 @@ impl Loaded {
         self.write.is_some()
     }
 
-    pub fn write(&self, front: [u32; 5], arcs: &[u32], marks: &[u8], sheet: &mut [u8]) -> u32 {
-        let [n, m, start, finish, limit] = front;
+    pub fn write(&self, Draft { header, arcs, marks, services }: &Draft, sheet: &mut [u8]) -> u32 {
+        let [n, m, start, finish, limit] = *header;
         let write = self.write.expect("a library that writes");
-        unsafe { write(n, m, start, finish, limit, arcs.as_ptr(), arcs.len(), marks.as_ptr(), marks.len(), sheet.as_mut_ptr(), sheet.len()) }
+        let (arcs, arcs_count, marks, marks_len) = (arcs.as_ptr(), arcs.len(), marks.as_ptr(), marks.len());
+        let (services, services_count) = (services.as_ptr(), services.len());
+        unsafe { write(n, m, start, finish, limit, arcs, arcs_count, marks, marks_len, services, services_count, sheet.as_mut_ptr(), sheet.len()) }
     }
 
     pub fn can_keep(&self) -> bool {
@@ -101,4 +108,11 @@ impl Loaded {
         let ask = self.ask.expect("a library with a shelf");
         unsafe { ask(store, sheet.as_ptr(), sheet.len(), slip.as_mut_ptr(), slip.len()) }
     }
+}
+
+/// A library from before service minutes refuses a sheet that has them.
+fn takes_services(pass: Call) -> bool {
+    let (sheet, mut work, mut slip) = (served_b().bytes(), vec![0; WORK_BYTES], vec![0; SLIP_BYTES]);
+    let number = unsafe { pass(sheet.as_ptr(), sheet.len(), work.as_mut_ptr(), work.len(), slip.as_mut_ptr(), slip.len()) };
+    number < 65_536
 }

@@ -5,19 +5,23 @@
 //! With `WAYS_BEFORE` set to the path of an earlier `libplanner.a`, that one takes its turns too, both loaded alike, and the last column is the present
 //! library's time in terms of the earlier one's. Where that one cannot make the call, or answers otherwise, a row ends before its columns.
 //!
-//! A second table has calls on shelves beside other calls on the same sheets, and how much of the others' time they may take.
+//! A second table has calls on shelves beside other calls on the same sheets, the pass on sheets with service minutes beside that on sheets of the old form, and how
+//! much of the others' time they may take.
 //!
 //! With `WAYS_PROGRAM` and `COST_PROGRAM` set to the paths of the programs, a third table has the times of these.
 
 mod loaded;
 mod processes;
+mod served;
 mod sheets;
 mod shelves;
 
+use cases::Draft;
 use loaded::Loaded;
 use reference::Shelf;
-use sheets::{standard, Operation, Standard};
-use shelves::{shelf_rows, Beside, Kept};
+use served::served_rows;
+use sheets::{standard, Beside, Operation, Standard};
+use shelves::{shelf_rows, Kept};
 use std::hint::black_box;
 use std::path::Path;
 use std::time::{Duration, Instant};
@@ -91,9 +95,9 @@ impl Timed {
             (Timed::Loaded(loaded), Operation::Pass) => loaded.pass(sheet, work, slip),
             (Timed::Loaded(loaded), Operation::Reason(item)) => loaded.reason(sheet, work, slip, *item),
             (Timed::Loaded(loaded), Operation::Check(slip)) => loaded.check(sheet, work, slip),
-            (Timed::Library, Operation::Write(draft)) => ways::numbers::write(draft.front, &draft.arcs, &draft.marks, &mut lent.written),
-            (Timed::Reference, Operation::Write(draft)) => reference::write_sheet(draft.front, &draft.arcs, &draft.marks, &mut lent.written),
-            (Timed::Loaded(loaded), Operation::Write(draft)) => loaded.write(draft.front, &draft.arcs, &draft.marks, &mut lent.written),
+            (Timed::Library, Operation::Write(draft)) => written(ways::numbers::write, draft, &mut lent.written),
+            (Timed::Reference, Operation::Write(draft)) => written(reference::write_sheet, draft, &mut lent.written),
+            (Timed::Loaded(loaded), Operation::Write(draft)) => loaded.write(draft, &mut lent.written),
             (Timed::Library, Operation::Put(_, slip)) => ways::numbers::store_put(&mut lent.store, sheet, work, slip),
             (Timed::Reference, Operation::Put(_, slip)) => lent.shelf.put(sheet, work, slip),
             (Timed::Loaded(loaded), Operation::Put(_, slip)) => loaded.put(&mut lent.store, sheet, work, slip),
@@ -102,6 +106,10 @@ impl Timed {
             (Timed::Loaded(loaded), Operation::Ask(kept)) => loaded.ask(&kept.store, sheet, slip),
         }
     }
+}
+
+fn written(write: impl Fn([u32; 5], &[u32], &[u8], &[u32], &mut [u8]) -> u32, draft: &Draft, sheet: &mut [u8]) -> u32 {
+    write(draft.header, &draft.arcs, &draft.marks, &draft.services, sheet)
 }
 
 fn sample(timed: &Timed, standard: &Standard, lent: &mut Lent, calls: u32) -> f64 {
@@ -200,10 +208,10 @@ fn main() {
     println!("| operation | sheet | library, µs | reference, µs | ratio |{head}");
     println!("|---|---|---:|---:|---:|{rule}");
     standard().iter().for_each(|standard| row(&all, standard, &mut lent));
-    let shelf_rows = shelf_rows();
-    shelf_rows.iter().for_each(|beside| row(&all, &beside.call, &mut lent));
+    let beside_rows: Vec<Beside> = served_rows().into_iter().chain(shelf_rows()).collect();
+    beside_rows.iter().for_each(|beside| row(&all, &beside.call, &mut lent));
     println!("\n| operation | sheet | library, µs | beside | library, µs | ratio | at most |");
     println!("|---|---|---:|---|---:|---:|---:|");
-    shelf_rows.iter().for_each(|beside| beside_row(&all[0], beside, &mut lent));
+    beside_rows.iter().for_each(|beside| beside_row(&all[0], beside, &mut lent));
     processes::table();
 }

@@ -1,7 +1,7 @@
 //! The standard sheets.
 
 use crate::shelves::Kept;
-use cases::{sheet_b, Draft, Random, Sheet, Slip, FORBIDDEN, MANDATORY, OPEN};
+use cases::{longest, sheet_b, Draft, Random, Sheet, Slip, FORBIDDEN, MANDATORY, OPEN};
 use reference::{least, SLIP_BYTES, WORK_BYTES};
 
 pub enum Operation {
@@ -35,7 +35,14 @@ pub struct Standard {
     pub refusal: u32,
 }
 
-const NODES: usize = 64;
+/// A call, the one that it is timed beside, and what it may take at most in terms of that one.
+pub struct Beside {
+    pub call: Standard,
+    pub other: Standard,
+    pub most: f64,
+}
+
+pub const NODES: usize = 64;
 const ARCS: usize = 512;
 
 /// 64 nodes and 512 arcs, all open. A ring comes first, so that every node can be reached.
@@ -66,7 +73,7 @@ fn everyday() -> Sheet {
 }
 
 /// Eight mandatory nodes.
-fn demanding(sheet: &Sheet) -> Sheet {
+pub fn demanding(sheet: &Sheet) -> Sheet {
     sheet.with_marks((0..8).map(|i| 3 + 7 * i), MANDATORY)
 }
 
@@ -163,15 +170,9 @@ fn write(name: &str, sheet: &Sheet) -> Standard {
     Standard { name: format!("{name}, {} bytes", bytes.len()), sheet: bytes, operation: Operation::Write(Draft::of(sheet)), refusal: 0 }
 }
 
-/// The longest sheet that there is.
-fn longest() -> Sheet {
-    let arcs: Vec<[u32; 3]> = (0..ARCS as u32).map(|arc| [arc % 64, (arc + 1) % 64, 65_535]).collect();
-    Sheet::new(NODES as u32, 0, NODES as u32 - 1, 1_000_000, &arcs)
-}
-
 /// Eight required and 224 closures, some of which are to blame.
-pub fn blamed() -> Sheet {
-    let eight = demanding(&full(1));
+pub fn blamed(sheet: &Sheet) -> Sheet {
+    let eight = demanding(sheet);
     let closed = half_closed(&eight, 224);
     closed.with_limit((least_length(&eight) + least_length(&closed)) / 2)
 }
@@ -182,7 +183,7 @@ pub fn standard() -> Vec<Standard> {
     let eight = demanding(&plain);
     let eight_fit = eight.with_limit(least_length(&eight));
     let open_length = least_length(&eight);
-    let blamed = blamed();
+    let blamed = blamed(&plain);
     let too_long = blamed.with_limit(open_length - 1);
     let all = all_closed(&plain).with_limit(least_length(&plain));
     let arcs = driven(&plain);
@@ -220,6 +221,7 @@ pub fn standard() -> Vec<Standard> {
         check("the slip of verdict 1 above", &all, pass_slip(&all)),
         check("the slip of the first verdict 3 above", &blamed, pass_slip(&blamed)),
         write("B", &b),
-        write("64 nodes, 512 arcs of 65,535 minutes", &longest()),
+        write("64 nodes, 512 arcs of 65,535 minutes", &longest().with_services(&[])),
+        write("the same with service minutes", &longest()),
     ]
 }

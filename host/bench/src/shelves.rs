@@ -1,6 +1,6 @@
 //! The rows for the shelf, each with the call that it is timed beside (request 2.6, the 'Speed').
 
-use crate::sheets::{all_closed, blamed, check, full, half_closed, least_length, pass, pass_slip, Operation, Standard};
+use crate::sheets::{all_closed, blamed, check, full, half_closed, least_length, pass, pass_slip, Beside, Operation, Standard};
 use cases::{Random, Sheet, Slip, FORBIDDEN, OPEN};
 use reference::Shelf;
 use ways::{Store, STORE_ITEMS, STORE_SLIPS, WORK_BYTES};
@@ -18,13 +18,6 @@ impl Kept {
         assert_eq!(self.shelf.put(&bytes, &mut work, &slip), 0);
         assert_eq!(self.store.count as usize, self.shelf.slips.len());
     }
-}
-
-/// A call, the one that it is timed beside, and what it may take at most in terms of that one.
-pub struct Beside {
-    pub call: Standard,
-    pub other: Standard,
-    pub most: f64,
 }
 
 fn own_slip(sheet: &Sheet) -> Slip {
@@ -79,7 +72,7 @@ pub fn shelf_rows() -> Vec<Beside> {
     let standing = half_closed(&plain, 224);
     let standing = standing.with_limit(2 * least_length(&standing));
     let all_but_one = all_closed(&plain).with_limit(least_length(&plain)).with_mark(plain.marks.len() - 1, OPEN);
-    let blamed = blamed();
+    let blamed = blamed(&plain);
     let slip = pass_slip(&blamed);
     let name = "the slip of the first verdict 3 above on a shelf of 63".to_string();
     let put = Standard { name, sheet: blamed.bytes(), operation: Operation::Put(others(&blamed, STORE_SLIPS - 1), slip.clone()), refusal: 0 };

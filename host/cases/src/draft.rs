@@ -3,29 +3,27 @@
 use crate::random::Random;
 use crate::written::Sheet;
 
-/// The five first numbers, the arcs' numbers and the marks. The lists may have any length.
+/// The five numbers of the header, the arcs' numbers, the marks and the service minutes. The lists may have any length.
 #[derive(Clone, Debug, PartialEq, Eq)]
 pub struct Draft {
-    pub front: [u32; 5],
+    pub header: [u32; 5],
     pub arcs: Vec<u32>,
     pub marks: Vec<u8>,
+    pub services: Vec<u32>,
 }
 
 impl Draft {
     pub fn of(sheet: &Sheet) -> Draft {
-        Draft {
-            front: [sheet.nodes, sheet.arcs.len() as u32, sheet.source, sheet.target, sheet.limit],
-            arcs: sheet.arcs.concat(),
-            marks: sheet.marks.iter().map(|&mark| mark as u8).collect(),
-        }
+        Draft { header: sheet.header(), arcs: sheet.arcs.concat(), marks: sheet.marks.iter().map(|&mark| mark as u8).collect(), services: sheet.service_list() }
     }
 }
 
 /// Numbers at every bound and one over, and such as no sheet can hold.
-const ODD: [u32; 20] =
-    [0, 1, 2, 63, 64, 65, 127, 128, 511, 512, 513, 65_535, 65_536, 1_000_000, 1_000_001, (1 << 28) - 1, 1 << 28, 1 << 31, u32::MAX - 1, u32::MAX];
+const ODD: [u32; 22] =
+    [0, 1, 2, 63, 64, 65, 127, 128, 511, 512, 513, 600, 601, 65_535, 65_536, 1_000_000, 1_000_001, (1 << 28) - 1, 1 << 28, 1 << 31, u32::MAX - 1, u32::MAX];
 
-/// The draft with one fault or a few, or none that matters: a number exchanged for an odd one, the first or the last items mandatory, a list shorter or longer.
+/// The draft with one fault or a few, or none that matters: a number exchanged for an odd one, the first or the last items mandatory, no service minutes, a list
+/// shorter or longer.
 pub fn spoiled(draft: &Draft, random: &mut Random) -> Draft {
     let mut spoiled = draft.clone();
     for _ in 0..random.between(1, 3) {
@@ -36,11 +34,11 @@ pub fn spoiled(draft: &Draft, random: &mut Random) -> Draft {
 
 fn spoil(draft: &mut Draft, random: &mut Random) {
     let odd = random.pick(&ODD);
-    match random.below(8) {
-        0 => draft.front[random.below(5)] = odd,
+    match random.below(11) {
+        0 => draft.header[random.below(5)] = odd,
         1 | 2 if !draft.arcs.is_empty() => {
             let at = random.below(draft.arcs.len());
-            let near = random.pick(&[odd, draft.front[0], draft.front[0].wrapping_sub(1), draft.arcs[at]]);
+            let near = random.pick(&[odd, draft.header[0], draft.header[0].wrapping_sub(1), draft.arcs[at]]);
             draft.arcs[at] = near;
         }
         3 if !draft.marks.is_empty() => {
@@ -49,7 +47,13 @@ fn spoil(draft: &mut Draft, random: &mut Random) {
         }
         4 => draft.marks.iter_mut().take(random.between(8, 11)).for_each(|mark| *mark = 1),
         5 => draft.marks.iter_mut().rev().take(random.between(8, 11)).for_each(|mark| *mark = 1),
-        6 => lengthen_or_cut(&mut draft.arcs, random.pick(&[1, 2, 3]), random),
+        6 if !draft.services.is_empty() => {
+            let at = random.below(draft.services.len());
+            draft.services[at] = random.pick(&[odd, 0, 1, 600, 601]);
+        }
+        7 => draft.services.fill(0),
+        8 => lengthen_or_cut(&mut draft.arcs, random.pick(&[1, 2, 3]), random),
+        9 => lengthen_or_cut(&mut draft.services, 1, random),
         _ => lengthen_or_cut(&mut draft.marks, 1, random),
     }
 }

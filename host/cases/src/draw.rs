@@ -28,7 +28,7 @@ pub enum Kind {
 
 pub const KINDS: [Kind; 9] = [Kind::Tiny, Kind::Small, Kind::Full, Kind::Zero, Kind::Parallel, Kind::Long, Kind::Closed, Kind::Required, Kind::Driven];
 
-/// A sheet that keeps to every rule of document 01, but that more than eight items may be required once in a while.
+/// A sheet that keeps to every rule of document 01 and request 2.7, but that more than eight items may be required once in a while. Half of them have the new form.
 pub fn draw(kind: Kind, random: &mut Random) -> Sheet {
     let (nodes, arc_count) = size(kind, random);
     let source = random.below(nodes);
@@ -42,6 +42,9 @@ pub fn draw(kind: Kind, random: &mut Random) -> Sheet {
     let mut sheet = Sheet::new(nodes as u32, source as u32, target as u32, limit, &arcs);
     forbid(kind, &mut sheet, random);
     demand(kind, &mut sheet, random);
+    if random.chance(1, 2) {
+        sheet.services = services(kind, nodes, random);
+    }
     sheet
 }
 
@@ -118,6 +121,18 @@ fn limit(kind: Kind, random: &mut Random) -> u32 {
     random.between(0, most) as u32
 }
 
+/// Service minutes of each node, or of a few; of one at least.
+fn services(kind: Kind, nodes: usize, random: &mut Random) -> Vec<u32> {
+    let most = match kind {
+        Kind::Tiny | Kind::Zero => random.pick(&[1, 1, 3, 600]),
+        _ => random.pick(&[1, 20, 127, 128, 600]),
+    };
+    let percent = random.pick(&[0, 30, 100]);
+    let mut services: Vec<u32> = (0..nodes).map(|_| if random.chance(percent, 100) { random.between(0, most) as u32 } else { 0 }).collect();
+    services[random.below(nodes)] = random.pick(&[1, most as u32]);
+    services
+}
+
 fn forbid(kind: Kind, sheet: &mut Sheet, random: &mut Random) {
     let (of_nodes, of_arcs) = match kind {
         Kind::Closed => (random.pick(&[0, 0, 0, 50, 100]), random.pick(&[40, 60, 80, 95, 100])),
@@ -176,13 +191,17 @@ fn demand_one(sheet: &mut Sheet, item: usize, random: &mut Random) {
 }
 
 /// A sheet's bytes with one fault or a few: a byte changed, left out or put in, the end cut off or something put behind it, a number made too great or badly
-/// written.
+/// written, a form that is half the other one.
 pub fn damaged(sheet: &Sheet, random: &mut Random) -> Vec<u8> {
     let mut numbers: Vec<Vec<u8>> = sheet.numbers().into_iter().map(number).collect();
     if random.chance(1, 2) {
         let at = random.below(numbers.len());
         let near_front = random.below(numbers.len().min(12));
-        numbers[random.pick(&[at, near_front])] = odd_number(random);
+        let near_end = numbers.len() - 1 - random.below(numbers.len().min(sheet.nodes as usize));
+        numbers[random.pick(&[at, near_front, near_front, near_end])] = odd_number(random);
+    }
+    if random.chance(1, 6) {
+        mix_forms(&mut numbers, sheet, random);
     }
     let mut bytes = numbers.concat();
     for _ in 0..random.below(3) {
@@ -191,9 +210,23 @@ pub fn damaged(sheet: &Sheet, random: &mut Random) -> Vec<u8> {
     bytes
 }
 
+/// The number of the new form put in front or left out, with the services as they were; all services 0, with or without it.
+fn mix_forms(numbers: &mut Vec<Vec<u8>>, sheet: &Sheet, random: &mut Random) {
+    let zeros = vec![number(0); sheet.nodes as usize];
+    match random.below(3) {
+        0 if sheet.is_new_form() => drop(numbers.remove(0)),
+        1 if sheet.is_new_form() => {
+            let end = numbers.len() - zeros.len();
+            numbers.splice(end.., zeros);
+        }
+        2 => numbers.extend(zeros),
+        _ => numbers.insert(0, number(1)),
+    }
+}
+
 /// Numbers at and beyond the bounds that the reader knows, and numbers that are badly written.
 fn odd_number(random: &mut Random) -> Vec<u8> {
-    let values = [0, 1, 2, 3, 63, 64, 65, 127, 128, 511, 512, 513, 16_383, 16_384, 65_535, 65_536, 1_000_000, 1_000_001, 2_097_152, 268_435_455];
+    let values = [0, 1, 2, 3, 63, 64, 65, 127, 128, 511, 512, 513, 600, 601, 16_383, 16_384, 65_535, 65_536, 1_000_000, 1_000_001, 2_097_152, 268_435_455];
     let written: [&[u8]; 7] =
         [&[0x80, 0], &[0x81, 0x80, 0], &[0xff, 0xff, 0xff, 0xff], &[0x80, 0x80, 0x80, 0], &[0x80, 0x80, 0x80, 0x80, 1], &[0x80], &[0xff, 0x7f]];
     if random.chance(2, 3) {

@@ -1,4 +1,4 @@
-//! The examples of request 2.6, and slips that fill a shelf.
+//! The examples of request 2.6, such with service minutes (request 2.7), and slips that fill a shelf.
 
 use crate::altered::{ascending, Slip};
 use crate::written::{sheet_b, Sheet, FORBIDDEN, MANDATORY};
@@ -43,7 +43,7 @@ fn driven_too_long() -> Sheet {
 }
 
 pub fn shelf_examples() -> Vec<Example> {
-    vec![found_again(), covered(), earliest_put(), no_put(), other_map(), alike(), order_of_refusals()]
+    vec![found_again(), covered(), earliest_put(), no_put(), other_map(), other_services(), same_services(), alike(), order_of_refusals()]
 }
 
 fn found_again() -> Example {
@@ -98,6 +98,45 @@ fn other_map() -> Example {
         put(&back, ONE_SHUT, 22),
         Step::Ask(other.bytes(), Err(22)),
         Step::Ask(back.bytes(), Err(22)),
+    ];
+    Example { steps, held: vec![(ONE_SHUT, 8)] }
+}
+
+/// B with an item forbidden, on which two minutes of the way to node 1 are service minutes there: each walk takes as long.
+fn served_closed_b() -> Sheet {
+    let [mut one, _] = closed_b();
+    one.arcs[0][2] -= 2;
+    one.with_services(&[0, 2, 0, 0])
+}
+
+/// Minutes and service minutes are compared, not their sums.
+fn other_services() -> Example {
+    let [one, _] = closed_b();
+    let served = one.with_services(&[0, 2, 0, 0]);
+    let steps = vec![
+        put(&one, ONE_SHUT, 0),
+        put(&served, &[1, 0, 0], 22),
+        put(&served_closed_b(), ONE_SHUT, 22),
+        Step::Ask(served.bytes(), Err(22)),
+        Step::Ask(served_closed_b().bytes(), Err(22)),
+        Step::Ask(one.with_services(&[0; 4]).bytes(), Err(11)),
+        ask(&one, ONE_SHUT),
+    ];
+    Example { steps, held: vec![(ONE_SHUT, 8)] }
+}
+
+fn same_services() -> Example {
+    let ([one, _], served) = (closed_b(), served_closed_b());
+    let steps = vec![
+        put(&served, ONE_SHUT, 0),
+        ask(&served, ONE_SHUT),
+        ask(&served.with_limit(7).with_mark(4, FORBIDDEN), ONE_SHUT),
+        ask(&served.with_limit(9), NONE),
+        put(&one, ONE_SHUT, 22),
+        Step::Ask(one.bytes(), Err(22)),
+        Step::Ask(served.with_services(&[0, 2, 0, 1]).bytes(), Err(22)),
+        Step::Ask(served.with_services(&[1, 2, 0, 0]).bytes(), Err(22)),
+        Step::Ask(served.with_services(&[0, 2, 0]).bytes(), Err(3)),
     ];
     Example { steps, held: vec![(ONE_SHUT, 8)] }
 }

@@ -1,4 +1,4 @@
-//! The lines of document 01, 'The sheet B and what it gives', and those that requests 2.3 and 2.4 add.
+//! The lines of document 01, 'The sheet B and what it gives', and those that requests 2.3, 2.4 and 2.7 add.
 
 use crate::written::{sheet_b, Sheet, FORBIDDEN, MANDATORY};
 
@@ -53,6 +53,30 @@ pub fn driven() -> Vec<Line> {
     ]
 }
 
+/// B with two service minutes at node 1.
+pub fn served_b() -> Sheet {
+    sheet_b().with_services(&[0, 2, 0, 0])
+}
+
+/// Lines of request 2.7: service minutes make the walk longer, and count again where a walk passes its source, another node or its target a second time.
+pub fn served() -> Vec<Line> {
+    let b = served_b();
+    let to_source = Sheet::new(3, 0, 1, 3, &[[0, 1, 0], [0, 2, 1], [2, 0, 1]]).with_mark(2, MANDATORY).with_services(&[2, 0, 0]);
+    let twice = Sheet::new(4, 0, 3, 8, &[[0, 1, 1], [1, 2, 1], [2, 1, 1], [1, 3, 1]]).with_marks([1, 2], MANDATORY).with_services(&[0, 2, 0, 0]);
+    let to_target = Sheet::new(3, 0, 1, 6, &[[0, 1, 1], [1, 2, 1], [2, 1, 1]]).with_mark(2, MANDATORY).with_services(&[0, 2, 0]);
+    vec![
+        pass(b.clone(), &[1, 0, 0]),
+        pass(b.with_limit(10), &[0, 1, 0, 2, 1, 0, 0, 2, 2, 2]),
+        reason(b.with_limit(10), 2, &[4, 1, 2, 0]),
+        pass(to_source.clone(), &[2, 1, 2, 0]),
+        pass(to_source.with_limit(4), &[0, 1, 1, 1, 0, 0, 0]),
+        pass(twice.clone(), &[0, 1, 1, 1, 1, 0, 0, 0, 0]),
+        pass(twice.with_limit(7), &[2, 1, 2, 0]),
+        pass(to_target.clone(), &[2, 1, 2, 0]),
+        pass(to_target.with_limit(7), &[0, 1, 1, 1, 0, 0, 0]),
+    ]
+}
+
 /// Slips with first number 3, with the sheet, and whether check says yes. No walk meets the goals of those that name 1 and 6, so for them the goals' marks decide.
 pub fn checks() -> Vec<(Sheet, &'static [u8], bool)> {
     let ramp = ramp();
@@ -103,7 +127,45 @@ pub fn with_required(count: u32) -> Sheet {
 /// What the formats decide: the sheet's bytes, the slip's length, and the refusal, 0 where the pass finishes.
 pub fn formats() -> Vec<(Vec<u8>, usize, u32)> {
     let b = sheet_b().bytes();
-    vec![
+    let with_services = |services: &[u8]| [&[1], &b[..], services].concat();
+    let zeros = with_services(&[0; 4]);
+    let mut all = vec![
+        (with_services(&[0, 2, 0, 0]), 1_200, 0),
+        (with_services(&[0, 0, 0, 1]), 1_200, 0),
+        (with_services(&[0xd8, 4, 0, 0, 0]), 1_200, 0),
+        (with_services(&[0xd9, 4, 0, 0, 0]), 1_200, 11),
+        (with_services(&[0, 0, 0, 0xd8, 4]), 1_200, 0),
+        (with_services(&[0, 0, 0, 0xd9, 4]), 1_200, 11),
+        (zeros[..zeros.len() - 1].to_vec(), 1_200, 3),
+        ([&zeros[..zeros.len() - 1], &[0x80, 0]].concat(), 1_200, 4),
+        ([&zeros[..], &[0]].concat(), 1_200, 11),
+        (zeros, 1_200, 11),
+        (with_services(&[0, 2, 0, 0, 0]), 1_200, 12),
+        ([&b[..], &[0, 2, 0, 0]].concat(), 1_200, 12),
+        (with_required(8).with_services(&[1; 11]).bytes(), 1_200, 0),
+        (with_required(9).with_services(&[1; 11]).bytes(), 1_200, 13),
+        (with_required(9).with_services(&[0; 11]).bytes(), 1_200, 11),
+    ];
+    let beginnings: [(&[u8], u32); 16] = [
+        (&[0], 5),
+        (&[1], 3),
+        (&[2], 3),
+        (&[64], 3),
+        (&[65], 5),
+        (&[0x81, 0], 4),
+        (&[0x81], 3),
+        (&[1, 0], 5),
+        (&[1, 1], 5),
+        (&[1, 2], 3),
+        (&[1, 64], 3),
+        (&[1, 65], 5),
+        (&[1, 0x84, 0], 4),
+        (&[1, 0x81, 0], 4),
+        (&[1, 0x84], 3),
+        (&[1, 1, 2], 5),
+    ];
+    all.extend(beginnings.map(|(bytes, refusal)| (bytes.to_vec(), 1_200, refusal)));
+    all.extend([
         (vec![], 1_200, 3),
         ([&b[..], &[0]].concat(), 1_200, 12),
         ([&[0x80, 0], &b[1..]].concat(), 1_200, 4),
@@ -115,7 +177,8 @@ pub fn formats() -> Vec<(Vec<u8>, usize, u32)> {
         (with_required(8).bytes(), 1_200, 0),
         (with_required(9).bytes(), 1_200, 13),
         (Sheet::new(2, 0, 1, 99, &[[0, 1, 1]; 9]).with_marks(2..11, MANDATORY).bytes(), 1_200, 13),
-    ]
+    ]);
+    all
 }
 
 /// What `cost` reads, and what it prints.
@@ -128,6 +191,8 @@ pub fn costs() -> Vec<(Vec<u8>, &'static str)> {
         (b.with_limit(12).with_mark(4, FORBIDDEN).asked_for(1), "none\n8\n"),
         (b.with_limit(14).with_marks([5, 8], FORBIDDEN).asked_for(1), "none\n8\n14\n"),
         (b.with_mark(6, FORBIDDEN).asked_for(2), "-6\n"),
+        (served_b().with_limit(10).asked_for(2), "-2\n"),
+        (served_b().with_limit(12).with_mark(4, FORBIDDEN).asked_for(1), "none\n10\n"),
         (b.asked_for(1), "refused 16\n"),
         (b.asked_for(9), "refused 15\n"),
         ([b.asked_for(9), vec![0]].concat(), "refused 12\n"),

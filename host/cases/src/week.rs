@@ -155,12 +155,12 @@ fn without_one(list: &[u32], random: &mut Random) -> Vec<u32> {
     rest
 }
 
-/// A map that differs in one thing: an arc's minutes or end, the arcs' order, an arc less or twice, the ends of the walk, a node more.
+/// A map that differs in one thing: an arc's minutes or end, the arcs' order, an arc less or twice, the ends of the walk, a node more, service minutes.
 fn other_map(sheet: &Sheet, random: &mut Random) -> Sheet {
     let mut other = sheet.clone();
     let (nodes, arcs) = (sheet.nodes as usize, sheet.arcs.len());
     let arc = random.below(arcs.max(1));
-    match random.below(8) {
+    match random.below(12) {
         0 | 1 if arcs > 0 => other.arcs[arc][2] ^= 1,
         2 if arcs > 0 => other.arcs[arc].swap(0, 1),
         3 if arcs > 0 => other.arcs.swap(arc, random.below(arcs)),
@@ -172,8 +172,37 @@ fn other_map(sheet: &Sheet, random: &mut Random) -> Sheet {
         6 if nodes < 64 => {
             other.nodes += 1;
             other.marks.insert(nodes, OPEN);
+            other.services.extend(sheet.is_new_form().then_some(0));
         }
+        7 => other.services = other_services(sheet, random),
+        8..=10 => return with_same_lengths(sheet, random),
         _ => (other.source, other.target) = (sheet.target, sheet.source),
     }
+    other
+}
+
+/// Service minutes that differ at one node. Where no other node has any, this one has some.
+fn other_services(sheet: &Sheet, random: &mut Random) -> Vec<u32> {
+    let mut services = sheet.service_list();
+    let at = random.below(services.len());
+    let fewest = u32::from(services.iter().enumerate().all(|(node, &minutes)| node == at || minutes == 0));
+    services[at] = if services[at] == fewest { random.pick(&[fewest + 1, 600]) } else { fewest };
+    services
+}
+
+/// Another map on which each walk takes as long: minutes of the arcs that come to a node are its service minutes, or where there are none to take, all service
+/// minutes are minutes of arcs.
+fn with_same_lengths(sheet: &Sheet, random: &mut Random) -> Sheet {
+    let node = random.below(sheet.nodes as usize) as u32;
+    let comes = |arc: &[u32; 3]| arc[1] == node;
+    let least = sheet.arcs.iter().filter(|arc| comes(arc)).map(|arc| arc[2]).min().unwrap_or(0);
+    let most = least.min(600 - sheet.service(node));
+    if most == 0 {
+        return sheet.in_old_form();
+    }
+    let moved = random.between(1, most as usize) as u32;
+    let mut other = sheet.with_services(&sheet.service_list());
+    other.services[node as usize] += moved;
+    other.arcs.iter_mut().filter(|arc| comes(arc)).for_each(|arc| arc[2] -= moved);
     other
 }

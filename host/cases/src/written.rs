@@ -15,13 +15,15 @@ pub struct Sheet {
     pub arcs: Vec<[u32; 3]>,
     /// the nodes' marks, then the arcs'
     pub marks: Vec<u32>,
+    /// the nodes' service minutes; none in the old form
+    pub services: Vec<u32>,
 }
 
 impl Sheet {
-    /// All items open.
+    /// All items open, in the old form.
     pub fn new(nodes: u32, source: u32, target: u32, limit: u32, arcs: &[[u32; 3]]) -> Sheet {
         let marks = vec![OPEN; nodes as usize + arcs.len()];
-        Sheet { nodes, source, target, limit, arcs: arcs.to_vec(), marks }
+        Sheet { nodes, source, target, limit, arcs: arcs.to_vec(), marks, services: vec![] }
     }
 
     pub fn with_limit(&self, limit: u32) -> Sheet {
@@ -38,9 +40,41 @@ impl Sheet {
         sheet
     }
 
+    /// In the new form, or with no services in the old one.
+    pub fn with_services(&self, services: &[u32]) -> Sheet {
+        Sheet { services: services.to_vec(), ..self.clone() }
+    }
+
+    pub fn is_new_form(&self) -> bool {
+        !self.services.is_empty()
+    }
+
+    /// The minutes that a walk takes for a touch of a node, unless it starts with it.
+    pub fn service(&self, node: u32) -> u32 {
+        self.services.get(node as usize).copied().unwrap_or(0)
+    }
+
+    pub fn service_list(&self) -> Vec<u32> {
+        (0..self.nodes).map(|node| self.service(node)).collect()
+    }
+
+    /// The sheet of the old form on which every walk takes as long: the service minutes are added to those of the arcs that come to the node.
+    pub fn in_old_form(&self) -> Sheet {
+        let arcs = self.arcs.iter().map(|&[tail, head, minutes]| [tail, head, minutes + self.service(head)]).collect();
+        Sheet { arcs, services: vec![], ..self.clone() }
+    }
+
+    pub fn header(&self) -> [u32; 5] {
+        [self.nodes, self.arcs.len() as u32, self.source, self.target, self.limit]
+    }
+
     pub fn numbers(&self) -> Vec<u32> {
-        let front = [self.nodes, self.arcs.len() as u32, self.source, self.target, self.limit];
-        front.into_iter().chain(self.arcs.iter().flatten().copied()).chain(self.marks.iter().copied()).collect()
+        let content = [&self.header()[..], self.arcs.as_flattened(), &self.marks].concat();
+        if self.is_new_form() {
+            [&[1], &content[..], &self.services].concat()
+        } else {
+            content
+        }
     }
 
     pub fn bytes(&self) -> Vec<u8> {
@@ -80,6 +114,12 @@ pub fn numbers_in(bytes: &[u8]) -> Vec<u32> {
         }
     }
     all
+}
+
+/// The longest sheet that there is in the new form, and without its services in the old one.
+pub fn longest() -> Sheet {
+    let arcs: Vec<[u32; 3]> = (0..512).map(|arc| [arc % 64, (arc + 1) % 64, 65_535]).collect();
+    Sheet::new(64, 0, 15, 1_000_000, &arcs).with_services(&[600; 64])
 }
 
 /// The sheet B of document 01.

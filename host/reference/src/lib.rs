@@ -1,10 +1,11 @@
 //! A second implementation of pass, reason, check, the writer, the shelf and the texts of the programs `ways` and `cost`, written from document 01 and requests 2.1,
-//! 2.3, 2.4 and 2.6, to hold the proved library and programs to. Points that these leave open are settled as docs/DECISIONS.md has them, so a fault there would be in
-//! both.
+//! 2.3, 2.4, 2.6 and 2.7, to hold the proved library and programs to. Points that these leave open are settled as docs/DECISIONS.md has them, so a fault there would be
+//! in both.
 //!
 //! It shares no code with the library. What differs: the library holds lengths up to a cap alone, mostly the limit, and puts rows of them back where an opening is not kept. Here
 //!
 //! - lengths are whole 64-bit numbers that know no cap;
+//! - a sheet keeps minutes and service minutes apart, and a length adds the service minutes where a walk comes to a node. The library's reader adds them to the arcs;
 //! - the list of reasons never undoes anything. With the lengths *from* each goal and *to* each goal, the pairs that an opening would give follow from the lengths
 //!   at the opened item: only an item that stays open is put into the graph, and the lengths are mended from there;
 //! - the writer judges nothing: it writes the numbers and has the reader judge the bytes;

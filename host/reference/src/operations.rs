@@ -4,7 +4,7 @@
 use crate::graph::Graph;
 use crate::number::{write, write_all, ENDS, GREATEST};
 use crate::reasons::reasons;
-use crate::sheet::{Sheet, FORBIDDEN, MANDATORY, OPEN};
+use crate::sheet::{Sheet, FORBIDDEN, MANDATORY, NEW_FORM, OPEN};
 use crate::slip::Slip;
 use crate::tour::Lengths;
 
@@ -47,10 +47,10 @@ pub fn check(sheet: &[u8], work: &mut [u8], slip: &[u8]) -> u32 {
     outcome(answer.map(|(_, yes)| yes.into()), work)
 }
 
-/// Writes a sheet from its five first numbers, the arcs' numbers and the marks. Nothing is judged here but the lists' lengths: the numbers are written, each cut to
-/// the greatest that can be, which is over every bound, and the reader judges what was written.
-pub fn write_sheet(front: [u32; 5], arcs: &[u32], marks: &[u8], sheet: &mut [u8]) -> u32 {
-    match drafted(front, arcs, marks) {
+/// Writes a sheet from the five numbers of its header, the arcs' numbers, the marks and the service minutes. Nothing is judged here but the lists' lengths: the numbers
+/// are written, each cut to the greatest that can be, which is over every bound, and the reader judges what was written.
+pub fn write_sheet(header: [u32; 5], arcs: &[u32], marks: &[u8], services: &[u32], sheet: &mut [u8]) -> u32 {
+    match drafted(header, arcs, marks, services) {
         Err(refusal) => refusal * LENGTHS,
         Ok(bytes) if bytes.len() > sheet.len() => SHEET_SHORT * LENGTHS,
         Ok(bytes) => {
@@ -60,21 +60,27 @@ pub fn write_sheet(front: [u32; 5], arcs: &[u32], marks: &[u8], sheet: &mut [u8]
     }
 }
 
-fn drafted(front: [u32; 5], arcs: &[u32], marks: &[u8]) -> Result<Vec<u8>, Refusal> {
-    let numbers = |list: &[u32]| list.iter().map(|&value| value.min(GREATEST)).collect::<Vec<_>>();
-    let mut bytes = write_all(&numbers(&front));
-    // a sheet has marks behind its front, so a good front ends too early
+fn drafted(header: [u32; 5], arcs: &[u32], marks: &[u8], services: &[u32]) -> Result<Vec<u8>, Refusal> {
+    let cut = |list: &[u32]| write_all(&list.iter().map(|&value| value.min(GREATEST)).collect::<Vec<_>>());
+    // first in the new form, so that a node count of 1 is not read as the number which that form begins with
+    let mut bytes = [write_all(&[NEW_FORM]), cut(&header)].concat();
+    // a sheet has marks behind its header, so a good header ends too early
     match Sheet::read(&bytes) {
         Err(ENDS) => {}
         Err(refusal) => return Err(refusal),
         Ok(_) => unreachable!("a sheet without marks"),
     }
-    let [nodes, arc_count, ..] = front.map(|number| number as usize);
-    if arcs.len() != 3 * arc_count || marks.len() != nodes + arc_count {
+    let [nodes, arc_count, ..] = header.map(|number| number as usize);
+    if arcs.len() != 3 * arc_count || marks.len() != nodes + arc_count || services.len() != nodes {
         return Err(ENDS);
     }
-    bytes.extend(write_all(&numbers(arcs)));
+    bytes.extend(cut(arcs));
     bytes.extend(write_all(&marks.iter().map(|&mark| mark.into()).collect::<Vec<u32>>()));
+    if services.iter().all(|&minutes| minutes == 0) {
+        bytes.remove(0);
+    } else {
+        bytes.extend(cut(services));
+    }
     Sheet::read(&bytes).map(|_| bytes)
 }
 

@@ -22,11 +22,12 @@ pub fn reasons(sheet: &Sheet, graph: &mut Graph, lengths: &mut Lengths) -> Vec<u
     listed
 }
 
-/// What opening an item gives: a stretch from `tail` to `head`. A node is a stretch of no minutes from itself to itself.
+/// What opening an item gives: a stretch from `tail` to `head`, in whose minutes the touch of the tail is not counted. A node is a stretch of no minutes from itself to
+/// itself.
 struct Opening {
     tail: usize,
     head: usize,
-    weight: u64,
+    own: u64,
     /// from each point through the item
     into: [u64; MOST_POINTS],
     /// from the item's end to each point
@@ -43,7 +44,7 @@ impl Opening {
     }
 
     fn of_node(graph: &Graph, lengths: &Lengths, node: usize) -> Opening {
-        let mut opening = Opening { tail: node, head: node, weight: 0, into: [MISSING; MOST_POINTS], onward: [MISSING; MOST_POINTS] };
+        let mut opening = Opening { tail: node, head: node, own: 0, into: [MISSING; MOST_POINTS], onward: [MISSING; MOST_POINTS] };
         for (i, point) in lengths.points.iter().enumerate() {
             opening.into[i] = graph.opened_from(node, point.exit, &lengths.from[i]);
             opening.onward[i] = graph.opened_to(node, point.entry, &lengths.to[i]);
@@ -54,11 +55,11 @@ impl Opening {
     /// A node that is closed when the arcs' turn comes stays closed. It has no length in any row, so an arc at it gives nothing.
     fn of_arc(sheet: &Sheet, graph: &Graph, lengths: &Lengths, arc: usize) -> Opening {
         let (tail, head) = (sheet.arcs[arc].tail as usize, sheet.arcs[arc].head as usize);
-        let weight = u64::from(sheet.arcs[arc].weight);
-        let mut opening = Opening { tail, head, weight, into: [MISSING; MOST_POINTS], onward: [MISSING; MOST_POINTS] };
+        let own = sheet.driven(arc);
+        let mut opening = Opening { tail, head, own, into: [MISSING; MOST_POINTS], onward: [MISSING; MOST_POINTS] };
         if graph.is_open(tail) && graph.is_open(head) {
             for i in 0..lengths.points.len() {
-                opening.into[i] = lengths.from[i][tail] + weight;
+                opening.into[i] = lengths.from[i][tail] + own;
                 opening.onward[i] = lengths.to[i][head];
             }
         }
@@ -90,7 +91,7 @@ impl Opening {
             graph.nearer_from(row, self.head, into);
         }
         for (row, &onward) in lengths.to.iter_mut().zip(&self.onward) {
-            graph.nearer_to(row, self.tail, onward + self.weight);
+            graph.nearer_to(row, self.tail, onward + self.own);
         }
     }
 }

@@ -1,4 +1,4 @@
-//! The shelf of reasons (request 2.6): slips of refused routes with their sheets' limits, for one map, source and target.
+//! The shelf of reasons (requests 2.6 and 2.7): slips of refused routes with their sheets' limits, for one map, its service minutes, source and target.
 
 use crate::operations::{check_on, one_number, outcome, slip_lent, work_lent, Refusal, PRUNED};
 use crate::sheet::{Arc, Sheet, FORBIDDEN, MANDATORY};
@@ -17,17 +17,20 @@ const SHELF_FULL: Refusal = 23;
 pub struct Base {
     pub nodes: usize,
     pub arcs: Vec<Arc>,
+    pub services: Vec<u32>,
     pub source: usize,
     pub target: usize,
 }
 
 impl Base {
     fn of(sheet: &Sheet) -> Base {
-        Base { nodes: sheet.nodes, arcs: sheet.arcs.clone(), source: sheet.source, target: sheet.target }
+        let Sheet { nodes, source, target, .. } = *sheet;
+        Base { nodes, arcs: sheet.arcs.clone(), services: sheet.services.clone(), source, target }
     }
 
     fn is_of(&self, sheet: &Sheet) -> bool {
-        self.nodes == sheet.nodes && self.source == sheet.source && self.target == sheet.target && self.arcs == sheet.arcs
+        let is_same_walk = self.source == sheet.source && self.target == sheet.target;
+        is_same_walk && self.nodes == sheet.nodes && self.arcs == sheet.arcs && self.services == sheet.services
     }
 }
 

@@ -1,12 +1,13 @@
 //! The least length of a walk through several goals, from the lengths between pairs of them.
 
 use crate::graph::{Graph, Row, MISSING};
-use crate::sheet::{Sheet, FORBIDDEN};
+use crate::sheet::{Arc, Sheet, FORBIDDEN};
 
 const MOST_GOALS: usize = 8;
 pub const MOST_POINTS: usize = MOST_GOALS + 1;
 
-/// A goal as a stretch of a walk: it is entered at one node and left at another, and takes its own minutes. A node is both, and takes none.
+/// A goal as a stretch of a walk: it is entered at one node and left at another, and takes its own minutes, in which the touch of the entry is not counted. A node
+/// is both, and takes none.
 #[derive(Clone, Copy)]
 pub struct Point {
     pub entry: usize,
@@ -19,8 +20,9 @@ impl Point {
         if item < sheet.nodes {
             return Point { entry: item, exit: item, own: 0 };
         }
-        let arc = sheet.arcs[item - sheet.nodes];
-        Point { entry: arc.tail as usize, exit: arc.head as usize, own: arc.weight.into() }
+        let arc = item - sheet.nodes;
+        let Arc { tail, head, .. } = sheet.arcs[arc];
+        Point { entry: tail as usize, exit: head as usize, own: sheet.driven(arc) }
     }
 }
 

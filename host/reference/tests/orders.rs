@@ -10,15 +10,16 @@ const MISSING: u64 = u64::MAX / 4;
 
 type Table = Vec<Vec<u64>>;
 
-/// The lengths from each node to each, clear of the closed items.
+/// The lengths from each node to each, clear of the closed items. Each counts every touch but the first.
 fn lengths(sheet: &Sheet, closed: &[bool]) -> Table {
     let nodes = sheet.nodes as usize;
     let mut table = vec![vec![MISSING; nodes]; nodes];
     (0..nodes).filter(|&node| !closed[node]).for_each(|node| table[node][node] = 0);
-    for (arc, &[tail, head, weight]) in sheet.arcs.iter().enumerate() {
+    for (arc, &[tail, head, minutes]) in sheet.arcs.iter().enumerate() {
+        let length = u64::from(minutes + sheet.service(head));
         let (tail, head) = (tail as usize, head as usize);
         if !closed[tail] && !closed[head] && !closed[nodes + arc] {
-            table[tail][head] = table[tail][head].min(weight.into());
+            table[tail][head] = table[tail][head].min(length);
         }
     }
     for over in 0..nodes {
@@ -56,12 +57,13 @@ fn some_order(sheet: &Sheet, table: &Table, node: usize, minutes: u64, goals: &m
     false
 }
 
-/// Where a goal is entered and left, and its own minutes.
+/// Where a goal is entered and left, and its own minutes, the touch where it is left among them.
 fn stretch(sheet: &Sheet, goal: usize) -> (usize, usize, u64) {
-    match goal.checked_sub(sheet.nodes as usize) {
-        None => (goal, goal, 0),
-        Some(arc) => (sheet.arcs[arc][0] as usize, sheet.arcs[arc][1] as usize, sheet.arcs[arc][2].into()),
-    }
+    let Some(arc) = goal.checked_sub(sheet.nodes as usize) else {
+        return (goal, goal, 0);
+    };
+    let [tail, head, minutes] = sheet.arcs[arc];
+    (tail as usize, head as usize, u64::from(minutes + sheet.service(head)))
 }
 
 fn fits(sheet: &Sheet, closed: &[bool], goals: &[usize]) -> bool {
@@ -111,6 +113,7 @@ fn try_sheets(kind: Kind, sheets: usize) {
     }
     println!("{kind:?}: {:?}", trial.counts);
     assert!(trial.counts.verdicts.iter().all(|&count| count > 0), "a verdict is missing");
+    assert!(trial.counts.by_service > sheets / 20, "service minutes seldom matter");
     assert!(trial.counts.over > 0 && trial.counts.with_choice > 0, "no item over the limit, or none with a choice of closures");
 }
 

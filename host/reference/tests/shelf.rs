@@ -1,5 +1,5 @@
-//! The shelf of the reference: the examples of request 2.6, and weeks of puts and asks against the request taken at its word. What is promised of a shelf that
-//! calls have reached is tried as well.
+//! The shelf of the reference: the examples of requests 2.6 and 2.7, and weeks of puts and asks against the requests taken at their word. What is promised of a
+//! shelf that calls have reached is tried as well.
 
 use cases::{crowd, draw, sheet_b, shelf_examples, Example, Habit, Kind, Random, Sheet, Slip, Step, Turn, Week, OPEN};
 use reference::{check, pass, Shelf, SLIP_BYTES, WORK_BYTES};
@@ -32,7 +32,7 @@ fn applies((slip, limit): &Kept, sheet: &reference::Sheet) -> bool {
 
 impl Plain {
     fn is_other(&self, sheet: &reference::Sheet) -> bool {
-        let base = |sheet: &reference::Sheet| (sheet.nodes, sheet.arcs.clone(), sheet.source, sheet.target);
+        let base = |sheet: &reference::Sheet| (sheet.nodes, sheet.arcs.clone(), sheet.services.clone(), sheet.source, sheet.target);
         self.map.as_ref().is_some_and(|map| base(map) != base(sheet))
     }
 

@@ -1,6 +1,6 @@
-//! The reference on the lines of document 01, 'The sheet B and what it gives', and on those of requests 2.3 and 2.4.
+//! The reference on the lines of document 01, 'The sheet B and what it gives', and on those of requests 2.3, 2.4 and 2.7.
 
-use cases::{checks, costs, driven, eight_and_nine, formats, sheet_b, starred, Line, Sheet, FORBIDDEN, MANDATORY};
+use cases::{checks, costs, driven, eight_and_nine, formats, served, served_b, sheet_b, starred, Line, Sheet, FORBIDDEN, MANDATORY};
 use reference::{check, cost, pass, program, reason, SLIP_BYTES, WORK_BYTES};
 
 const REFUSED: u32 = 65_536;
@@ -25,7 +25,7 @@ fn refusal(bytes: &[u8], slip: usize) -> u32 {
 
 #[test]
 fn the_table_of_b() {
-    for Line { sheet, item, slip } in starred().into_iter().chain(driven()) {
+    for Line { sheet, item, slip } in starred().into_iter().chain(driven()).chain(served()) {
         let written = match item {
             None => pass_slip(&sheet),
             Some(item) => reason_slip(&sheet, item),
@@ -75,6 +75,8 @@ fn the_program() {
     assert_eq!(program(&b.with_limit(7).bytes()), "verdict 1\nneeds\nbecause\n");
     assert_eq!(program(&b.with_mark(1, FORBIDDEN).bytes()), "verdict 1\nneeds\nbecause 1\n");
     assert_eq!(program(&b.with_limit(14).with_marks([1, 6], MANDATORY).bytes()), "verdict 3\nneeds 1 6\nbecause\n");
+    assert_eq!(program(&served_b().bytes()), "verdict 1\nneeds\nbecause\n");
+    assert_eq!(program(&served_b().with_limit(10).bytes()), "verdict 0\nstruck 2 6 7 8\n");
     assert_eq!(program(&[]), "refused 3\n");
 }
 

@@ -1,4 +1,4 @@
-//! The reference on small sheets against document 01 and requests 2.3 and 2.4 taken at their word: every walk is tried.
+//! The reference on small sheets against document 01 and requests 2.3, 2.4 and 2.7 taken at their word: every walk is tried.
 
 mod by_definition;
 
@@ -23,7 +23,12 @@ impl Search<'_> {
         self.goals.iter().position(|&goal| goal == item).map_or(0, |goal| 1 << goal)
     }
 
-    /// Some walk that comes to the node with these goals met goes on to the target within the minutes that are left, so that all goals are met.
+    /// The walk touches the node, not at its start: that takes the node's service minutes, if they are left.
+    fn touches(&mut self, node: u32, met: u32, minutes: u32) -> bool {
+        minutes.checked_sub(self.sheet.service(node)).is_some_and(|left| self.goes_on(node as usize, met, left))
+    }
+
+    /// Some walk that is at the node with these goals met goes on to the target within the minutes that are left, so that all goals are met.
     fn goes_on(&mut self, node: usize, met: u32, minutes: u32) -> bool {
         let met = met | self.met_by(node);
         if self.closed[node] || self.tried.get(&(node, met)).is_some_and(|&left| left >= minutes) {
@@ -35,7 +40,7 @@ impl Search<'_> {
             let [tail, head, weight] = self.sheet.arcs[arc];
             let item = self.sheet.nodes as usize + arc;
             let leaves = tail as usize == node && weight <= minutes && !self.closed[item];
-            leaves && self.goes_on(head as usize, met | self.met_by(item), minutes - weight)
+            leaves && self.touches(head, met | self.met_by(item), minutes - weight)
         })
     }
 }
@@ -62,6 +67,14 @@ fn draw_arcs(nodes: usize, source: usize, target: usize, fan: bool, random: &mut
     arcs.map(|(tail, head)| [tail as u32, head as u32, random.between(0, most) as u32]).collect()
 }
 
+/// Not all 0.
+fn draw_services(nodes: usize, random: &mut Random) -> Vec<u32> {
+    let most = random.pick(&[0, 1, 3]);
+    let mut services: Vec<u32> = (0..nodes).map(|_| random.between(0, most) as u32).collect();
+    services[random.below(nodes)] = random.pick(&[1, 2, 5]);
+    services
+}
+
 fn draw(random: &mut Random) -> Sheet {
     let nodes = random.between(2, 5);
     let source = random.below(nodes);
@@ -72,6 +85,9 @@ fn draw(random: &mut Random) -> Sheet {
     let closed = if fan { random.pick(&[0, 5, 15]) } else { random.pick(&[0, 10, 40, 70]) };
     let demanded_nodes = random.pick(&[0, 20, 60]);
     let demanded_arcs = random.pick(&[0, 0, 20, 60]);
+    if random.chance(1, 2) {
+        sheet.services = draw_services(nodes, random);
+    }
     for item in 0..sheet.marks.len() {
         let demanded = if item < nodes { demanded_nodes } else { demanded_arcs };
         let is_free = fan && (nodes..nodes + FREE).contains(&item);
@@ -131,5 +147,6 @@ fn small_sheets_by_every_walk() {
     assert!(trial.counts.verdicts.iter().all(|&count| count > SHEETS / 100), "a verdict is rare");
     assert!(trial.counts.with_reasons[1..].iter().all(|&count| count > SHEETS / 500), "reasons are rare");
     assert!(trial.counts.with_arcs > SHEETS / 100, "arcs as goals are rare");
+    assert!(trial.counts.by_service > SHEETS / 20, "service minutes seldom matter");
     assert!(trial.counts.over > SHEETS / 100 && trial.counts.with_choice > SHEETS / 100, "items over the limit, or with a choice of closures, are rare");
 }

@@ -4,7 +4,7 @@ use crate::lent::MARGIN;
 use cases::Random;
 use reference::{Arc, Base, Shelf, Shelved, Slip};
 use std::slice;
-use ways::{Slot, Store, STORE_ITEMS, STORE_LEGS, STORE_SLIPS};
+use ways::{Slot, Store, STORE_ITEMS, STORE_LEGS, STORE_SERVICES, STORE_SLIPS};
 
 /// The numbers in a store.
 const STORE_NUMBERS: usize = size_of::<Store>() / size_of::<u32>();
@@ -19,10 +19,14 @@ fn at_most(count: u32, most: usize) -> usize {
     most.min(count as usize)
 }
 
+/// The store has an arc's minutes with the service minutes of its head added. In a store of any bytes they may be more than the sum, or of no node: it then shows
+/// minutes that no sheet has, or the sum.
 fn base_of(store: &Store) -> Base {
+    let services = store.services[..at_most(store.nodes, STORE_SERVICES)].to_vec();
     let numbers = &store.legs[..3 * at_most(store.arcs, STORE_LEGS / 3)];
-    let arcs = numbers.chunks(3).map(|arc| Arc { tail: arc[0], head: arc[1], weight: arc[2] }).collect();
-    Base { nodes: store.nodes as usize, arcs, source: store.source as usize, target: store.target as usize }
+    let minutes = |sum: u32, head: u32| sum.wrapping_sub(*services.get(head as usize).unwrap_or(&0));
+    let arcs = numbers.chunks(3).map(|arc| Arc { tail: arc[0], head: arc[1], minutes: minutes(arc[2], arc[1]) }).collect();
+    Base { nodes: store.nodes as usize, arcs, services, source: store.source as usize, target: store.target as usize }
 }
 
 fn shelved_in(slot: &Slot) -> Shelved {

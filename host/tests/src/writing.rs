@@ -21,10 +21,11 @@ struct Left {
     number: u32,
     arcs: Vec<u32>,
     marks: Vec<u8>,
+    services: Vec<u32>,
     sheet: Vec<u8>,
 }
 
-type Write = fn([u32; 5], &[u32], &[u8], &mut [u8]) -> u32;
+type Write = fn([u32; 5], &[u32], &[u8], &[u32], &mut [u8]) -> u32;
 
 impl WritingDesk {
     pub fn new(seed: u64) -> WritingDesk {
@@ -60,12 +61,16 @@ impl WritingDesk {
 
 fn call(write: Write, draft: &Draft, junk: &[u8], start: usize, room: usize) -> Left {
     let mut sheet = junk[..start + room + MARGIN].to_vec();
-    let (arcs, marks) = (around(&draft.arcs, u32::MAX), around(&draft.marks, u8::MAX));
-    let (lent_arcs, lent_marks) = (&arcs[MARGIN..MARGIN + draft.arcs.len()], &marks[MARGIN..MARGIN + draft.marks.len()]);
-    let number = write(draft.front, lent_arcs, lent_marks, &mut sheet[start..start + room]);
-    Left { number, arcs, marks, sheet }
+    let (arcs, marks, services) = (around(&draft.arcs, u32::MAX), around(&draft.marks, u8::MAX), around(&draft.services, u32::MAX));
+    let number = write(draft.header, within(&arcs), within(&marks), within(&services), &mut sheet[start..start + room]);
+    Left { number, arcs, marks, services, sheet }
 }
 
 fn around<T: Copy>(list: &[T], other: T) -> Vec<T> {
-    [&vec![other; MARGIN], list, &vec![other; MARGIN]].concat()
+    [&[other; MARGIN][..], list, &[other; MARGIN]].concat()
+}
+
+/// What `around` was given.
+fn within<T>(list: &[T]) -> &[T] {
+    &list[MARGIN..list.len() - MARGIN]
 }

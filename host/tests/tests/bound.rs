@@ -1,4 +1,4 @@
-//! How long a shortest walk is at most (request 2.5): rings on which it takes as many arcs as it can take anywhere.
+//! How long a shortest walk is at most (requests 2.5 and 2.7): rings on which it takes as many arcs as it can take anywhere.
 
 use cases::{ring, Sheet};
 use tests::Desk;
@@ -49,4 +49,32 @@ fn the_longest_walk() {
     let slow = ring(64, 8, 65_535);
     assert_eq!(slip(&slow, 1_000_000), [1, 0, 0]);
     assert_eq!(least(&slow), 37_682_625);
+    let slowest = slow.with_services(&[600; 64]);
+    assert_eq!(slip(&slowest, 1_000_000), [1, 0, 0]);
+    assert_eq!(least(&slowest), 38_027_625);
+}
+
+/// Each mandatory arc leads from the target back to the source: that is a touch of the source, and one more of the target and of each node on the way there.
+#[test]
+fn service_on_rings() {
+    let mut desk = Desk::new(3);
+    let mut verdict = |sheet: &Sheet, limit: u32| desk.pass(&sheet.with_limit(limit).bytes()).expect("a good sheet")[0];
+    for nodes in [2, 3, 4, 17, 64] {
+        for mandatory in 0..=8 {
+            for node in [0, 1, nodes - 1] {
+                let touches = mandatory as u32 + u32::from(node != 1);
+                for (minutes, service) in [(0, 1), (0, 600), (1, 600), (3, 7)] {
+                    let mut services = vec![0; nodes as usize];
+                    services[node as usize] = service;
+                    let sheet = ring(nodes, mandatory, minutes).with_services(&services);
+                    let length = minutes * most_arcs(nodes, mandatory) + service * touches;
+                    assert_eq!(least(&sheet), length.into(), "{sheet:?}");
+                    assert_eq!(verdict(&sheet, length), 0, "{sheet:?}");
+                    if length > 0 {
+                        assert_eq!(verdict(&sheet, length - 1), [1, 2, 3][mandatory.min(2)], "{sheet:?}");
+                    }
+                }
+            }
+        }
+    }
 }

@@ -1,6 +1,6 @@
 //! The tool `cost` run as a process. COST_PROGRAM names it; with CI set it has to be there, without it the tests say that they did nothing.
 
-use cases::{behind_closures, costs, damaged, draw, number, numbers_in, sheet_b, Random, Sheet, Slip, FORBIDDEN, KINDS, MANDATORY};
+use cases::{behind_closures, costs, damaged, draw, longest, number, numbers_in, served_b, sheet_b, Random, Sheet, Slip, FORBIDDEN, KINDS, MANDATORY};
 use tests::{hex, items_to_ask, with_close_limit, Desk, Program};
 
 /// Sheets of each kind.
@@ -26,11 +26,13 @@ struct Trial {
     /// items with closures listed, and with two or more
     listed: usize,
     with_choice: usize,
+    /// items struck on sheets with service minutes
+    served: usize,
 }
 
 impl Trial {
     fn new(program: Program) -> Trial {
-        Trial { program, desk: Desk::new(1), inputs: 0, drawn: [0; 17], unmet: 0, late: 0, listed: 0, with_choice: 0 }
+        Trial { program, desk: Desk::new(1), inputs: 0, drawn: [0; 17], unmet: 0, late: 0, listed: 0, with_choice: 0, served: 0 }
     }
 
     /// What is printed, which is what the reference says and what is promised.
@@ -46,24 +48,26 @@ impl Trial {
 
     /// The first line is `none` or negative, and the later ones are numbers within the limit, as many as reason lists closures.
     fn try_promises(&mut self, input: &[u8], text: &str) {
-        let numbers = numbers_in(input);
-        let (item, limit) = (numbers[0], numbers[5]);
-        let slip = self.desk.reason(&input[number(item).len()..], item).expect("a struck item");
+        let item = numbers_in(input)[0];
+        let sheet = &input[number(item).len()..];
+        let limit = reference::Sheet::read(sheet).expect("a good sheet").limit;
+        let slip = self.desk.reason(sheet, item).expect("a struck item");
         let listed = Slip::written(&slip).expect("a slip of reason").reasons.len();
         let lines: Vec<&str> = text.lines().collect();
         let is_late = lines[0].parse::<i64>().is_ok_and(|slack| slack < 0);
         assert!(is_late || lines[0] == "none", "{}\n{text}", hex(input));
         assert_eq!(lines.len(), 1 + listed, "{}\n{text}", hex(input));
-        assert!(lines[1..].iter().all(|line| line.parse::<u32>().is_ok_and(|length| length <= limit)), "{}\n{text}", hex(input));
+        assert!(lines[1..].iter().all(|line| line.parse::<u64>().is_ok_and(|length| length <= limit)), "{}\n{text}", hex(input));
         self.unmet += usize::from(!is_late);
         self.late += usize::from(is_late);
         self.listed += usize::from(listed > 0);
         self.with_choice += usize::from(listed > 1);
+        self.served += usize::from(sheet[0] == 1);
     }
 }
 
 #[test]
-fn what_request_2_4_prints() {
+fn what_requests_2_4_and_2_7_print() {
     let Some(program) = program() else { return };
     let mut trial = Trial::new(program);
     for (input, text) in costs() {
@@ -85,16 +89,18 @@ fn sheets_of_every_kind() {
             for item in slip.map_or(vec![], |slip| items_to_ask(&sheet, &slip, &mut random)) {
                 trial.try_input(&sheet.asked_for(item));
             }
-            if random.chance(1, 3) {
+            if random.chance(2, 3) {
                 let any = number(random.below(sheet.marks.len()) as u32);
                 trial.try_input(&[any, damaged(&sheet, &mut random)].concat());
             }
         }
     }
-    let Trial { inputs, drawn, unmet, late, listed, with_choice, .. } = trial;
-    println!("inputs {inputs}, by refusal {drawn:?}; items unmet {unmet}, late {late}, with closures {listed}, with two or more {with_choice}");
+    let Trial { inputs, drawn, unmet, late, listed, with_choice, served, .. } = trial;
+    println!(
+        "inputs {inputs}, by refusal {drawn:?}; items unmet {unmet}, late {late}, with closures {listed}, with two or more {with_choice}, served {served}"
+    );
     assert!(inputs > 1_000);
-    assert!(unmet > 100 && late > 100 && listed > 100 && with_choice > 50, "struck items of a kind are rare");
+    assert!(unmet > 100 && late > 100 && listed > 100 && with_choice > 50 && served > 100, "struck items of a kind are rare");
     assert!((3..=13).chain([15, 16]).all(|refusal| drawn[refusal] > 0), "a refusal is missing");
 }
 
@@ -146,11 +152,14 @@ fn items_beyond_the_last() {
 fn cut_off_at_every_byte() {
     let Some(program) = program() else { return };
     let mut trial = Trial::new(program);
-    let input = sheet_b().with_limit(14).with_marks([5, 8], FORBIDDEN).asked_for(1);
-    for end in 0..input.len() {
-        assert_eq!(trial.try_input(&input[..end]), "refused 3\n");
+    let old = sheet_b().with_limit(14).with_marks([5, 8], FORBIDDEN).asked_for(1);
+    let new = served_b().with_limit(16).with_marks([5, 8], FORBIDDEN).asked_for(1);
+    for (input, text) in [(old, "none\n8\n14\n"), (new, "none\n10\n16\n")] {
+        for end in 0..input.len() {
+            assert_eq!(trial.try_input(&input[..end]), "refused 3\n");
+        }
+        assert_eq!(trial.try_input(&input), text);
     }
-    assert_eq!(trial.try_input(&input), "none\n8\n14\n");
 }
 
 #[test]
@@ -181,6 +190,9 @@ fn far_over_the_limit() {
     let farthest = row(&steps_back, LONGEST);
     let item = farthest.marks.len() as u32 - 1;
     assert_eq!(trial.try_input(&farthest.asked_for(item)), format!("-{}\n", 8_322_945 - LONGEST));
+    // each of the 127 arcs comes to a node where 600 minutes are spent
+    let served = farthest.with_services(&[600; 64]).with_limit(LONGEST + 600);
+    assert_eq!(trial.try_input(&served.asked_for(item)), format!("-{}\n", 126 * (LONGEST + 600)));
 }
 
 /// Around the longest input that can be good, and around and far beyond the 8,192 bytes that are read, the item number among them.
@@ -188,16 +200,19 @@ fn far_over_the_limit() {
 fn long_inputs() {
     let Some(program) = program() else { return };
     let mut trial = Trial::new(program);
-    for length in [3_145, 3_146, 4_096, 8_191, 8_192, 8_193, 8_194, 20_000, 1_000_000] {
-        let mut input = sheet_b().asked_for(2);
-        input.resize(length, 0);
-        assert_eq!(trial.try_input(&input), "refused 12\n");
+    for length in [3_145, 3_146, 3_275, 3_276, 4_096, 8_191, 8_192, 8_193, 8_194, 20_000, 1_000_000] {
+        for sheet in [sheet_b(), served_b()] {
+            let mut input = sheet.asked_for(2);
+            input.resize(length, 0);
+            assert_eq!(trial.try_input(&input), "refused 12\n");
+        }
     }
-    let arcs: Vec<[u32; 3]> = (0..512).map(|arc| [arc % 64, (arc + 1) % 64, LONGEST]).collect();
-    let longest = Sheet::new(64, 0, 15, 1_000_000, &arcs).asked_for(575);
-    assert_eq!(longest.len(), 3_146);
-    assert_eq!(trial.try_input(&longest), format!("-{}\n", 79 * LONGEST - 1_000_000));
-    assert_eq!(trial.try_input(&longest[..3_145]), "refused 3\n");
+    for (sheet, length, minutes) in [(longest(), 3_275, LONGEST + 600), (longest().with_services(&[]), 3_146, LONGEST)] {
+        let input = sheet.asked_for(575);
+        assert_eq!(input.len(), length);
+        assert_eq!(trial.try_input(&input), format!("-{}\n", 79 * minutes - 1_000_000));
+        assert_eq!(trial.try_input(&input[..length - 1]), "refused 3\n");
+    }
     trial.program.try_long_input();
 }
 

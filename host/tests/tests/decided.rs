@@ -93,15 +93,19 @@ fn nothing_behind_a_badly_written_number_alters_4() {
     assert!((2..=4).all(|length| tried.contains(&(length, 4))));
 }
 
+/// In the new form the header stands behind the number 1, and 1 is no node count.
 fn wrong_header(sheet: &Sheet, random: &mut Random) -> Bad {
     let no_node = sheet.nodes + random.pick(&[0, 1, 64, 200, 20_000]);
-    let (at, value, expected) = match random.below(6) {
-        0 => (0, random.pick(&[0, 1, 65, 128, 16_384, 268_435_455]), 5),
-        1 => (1, random.pick(&[513, 16_384, 2_097_152, 268_435_455]), 6),
-        2 => (2, no_node, 7),
-        3 => (3, no_node, 7),
-        4 => (3, sheet.source, 7),
-        _ => (4, random.pick(&[1_000_001, 2_097_152, 268_435_455]), 8),
+    let no_count = random.pick(&[0, 65, 128, 16_384, 268_435_455]);
+    let header = usize::from(sheet.is_new_form());
+    let (at, value, expected) = match random.below(7) {
+        0 => (0, no_count, 5),
+        1 => (header, if sheet.is_new_form() { random.pick(&[1, no_count]) } else { no_count }, 5),
+        2 => (header + 1, random.pick(&[513, 16_384, 2_097_152, 268_435_455]), 6),
+        3 => (header + 2, no_node, 7),
+        4 => (header + 3, no_node, 7),
+        5 => (header + 3, sheet.source, 7),
+        _ => (header + 4, random.pick(&[1_000_001, 2_097_152, 268_435_455]), 8),
     };
     (at, number(value), expected)
 }
@@ -110,4 +114,31 @@ fn wrong_header(sheet: &Sheet, random: &mut Random) -> Bad {
 fn nothing_behind_a_headers_number_alters_its_refusal() {
     let tried = all_decided(32, wrong_header);
     assert!((5..=8).all(|refusal| tried.iter().any(|&(_, drawn)| drawn == refusal)));
+}
+
+/// Sheets with services, which stand at the end.
+const SERVED: usize = 90;
+
+#[test]
+fn nothing_behind_a_service_alters_11() {
+    let (mut desk, mut random) = (Desk::new(33), Random::new(33));
+    for i in 0..SERVED {
+        let drawn = draw(KINDS[i % KINDS.len()], &mut random);
+        let services: Vec<u32> = (0..drawn.nodes).map(|_| random.below(601) as u32).collect();
+        let sheet = drawn.with_services(&services);
+        let at = sheet.numbers().len() - 1 - random.below(services.len());
+        let (bytes, end) = with_number(&sheet, at, number(random.pick(&[601, 602, 16_384, 268_435_455])));
+        is_decided(&mut desk, &mut random, &bytes, end, 11);
+    }
+}
+
+/// The last service is refused where it is 0 as all before it are.
+#[test]
+fn nothing_behind_the_last_service_alters_11() {
+    let (mut desk, mut random) = (Desk::new(34), Random::new(34));
+    for i in 0..SERVED {
+        let drawn = draw(KINDS[i % KINDS.len()], &mut random);
+        let bytes = drawn.with_services(&vec![0; drawn.nodes as usize]).bytes();
+        is_decided(&mut desk, &mut random, &bytes, bytes.len(), 11);
+    }
 }

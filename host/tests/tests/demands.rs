@@ -70,8 +70,8 @@ fn lists_do_it_and_none_can_be_dropped() {
     assert!(dropped > SHEETS);
 }
 
-/// A later sheet with the same map, source and target, every listed closure forbidden and no greater limit, whatever else it marks. For a refused round everything
-/// named is demanded there, though a node need not be required: it may end a mandatory arc.
+/// A later sheet with the same map, service minutes, source and target, every listed closure forbidden and no greater limit, whatever else it marks. For a refused
+/// round everything named is demanded there, though a node need not be required: it may end a mandatory arc.
 fn later(sheet: &Sheet, slip: &Slip, random: &mut Random) -> Sheet {
     let smaller = random.between(0, sheet.limit as usize) as u32;
     let mut later = sheet.with_limit(random.pick(&[sheet.limit, sheet.limit, smaller]));
@@ -100,7 +100,8 @@ fn later(sheet: &Sheet, slip: &Slip, random: &mut Random) -> Sheet {
 #[test]
 fn lists_hold_on_later_sheets() {
     let (mut calls, mut random) = (Calls::new(), Random::new(2));
-    let mut held = [0; 5];
+    // of the old form and of the new one
+    let mut held = [[0; 4]; 2];
     for _ in 0..SHEETS {
         let sheet = draw_any(&mut random);
         for slip in slips(&mut calls, &sheet, &mut random) {
@@ -111,19 +112,19 @@ fn lists_hold_on_later_sheets() {
                 };
                 let ends_shut = slip.first == 4 && bytes[0] == 0 && bytes[1 + slip.goals[0] as usize] == 2;
                 assert!(bytes[0] > 0 || ends_shut, "{sheet:?} {slip:?} {later:?}");
-                held[slip.first as usize] += 1;
+                held[usize::from(later.is_new_form())][slip.first as usize - 1] += 1;
             }
         }
     }
-    println!("later sheets by first number {:?}", &held[1..]);
-    assert!(held[1..].iter().all(|&count| count > 50));
+    println!("later sheets by first number {held:?}");
+    assert!(held.as_flattened().iter().all(|&count| count > 50));
 }
 
 /// A sheet with the marks that the pass left gets the same slip again.
 #[test]
 fn the_pass_on_its_own_answer() {
     let (mut calls, mut random) = (Calls::new(), Random::new(3));
-    let mut again = 0;
+    let mut again = [0; 2];
     for _ in 0..SHEETS {
         let sheet = draw_any(&mut random);
         let Ok(slip) = calls.pass(&sheet) else {
@@ -132,8 +133,33 @@ fn the_pass_on_its_own_answer() {
         if slip[0] == 0 {
             let marks = slip[1..].iter().map(|&mark| u32::from(mark)).collect();
             assert_eq!(calls.pass(&Sheet { marks, ..sheet.clone() }), Ok(slip), "{sheet:?}");
-            again += 1;
+            again[usize::from(sheet.is_new_form())] += 1;
         }
     }
-    assert!(again > SHEETS / 20, "{again}");
+    assert!(again.iter().all(|&count| count > SHEETS / 40), "{again:?}");
+}
+
+/// Service minutes count as minutes of the arcs that come to the node: the sheet of the old form that has them so gets the same slips.
+#[test]
+fn the_same_lengths_in_both_forms() {
+    let (mut calls, mut random) = (Calls::new(), Random::new(4));
+    let mut tried = [0; 4];
+    for _ in 0..SHEETS {
+        let sheet = draw_any(&mut random);
+        let old = sheet.in_old_form();
+        if !sheet.is_new_form() || old.arcs.iter().any(|arc| arc[2] > 65_535) {
+            continue;
+        }
+        let passed = calls.pass(&sheet);
+        assert_eq!(calls.pass(&old), passed, "{sheet:?}");
+        for slip in slips(&mut calls, &sheet, &mut random) {
+            assert!(calls.check(&old, &slip), "{sheet:?} {slip:?}");
+            if slip.first == 4 {
+                assert_eq!(calls.reason(&old, slip.goals[0] as usize), Ok(slip.bytes()), "{sheet:?}");
+            }
+        }
+        passed.into_iter().for_each(|slip| tried[usize::from(slip[0])] += 1);
+    }
+    println!("sheets by verdict {tried:?}");
+    assert!(tried.iter().all(|&count| count > 50));
 }

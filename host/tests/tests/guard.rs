@@ -1,6 +1,6 @@
 //! Calls with what is lent between guard pages: a read or write over an end stops the process, and so does a write into what is only to be read.
 
-use cases::{damaged, draw, sheet_b, Random, KINDS};
+use cases::{damaged, draw, longest, served_b, sheet_b, Random, KINDS};
 use tests::{hex, Guarded, REFUSED};
 use ways::{SLIP_BYTES, WORK_BYTES};
 
@@ -73,10 +73,27 @@ fn sheets_of_every_kind() {
 #[test]
 fn cut_off_at_every_byte() {
     let mut random = Random::new(2);
-    let bytes = sheet_b().bytes();
-    for end in 0..=bytes.len() {
-        for sides in 0..8 {
-            try_all(&bytes[..end], sides, &mut random);
+    for bytes in [sheet_b().bytes(), served_b().with_limit(10).bytes()] {
+        for end in 0..=bytes.len() {
+            for sides in 0..8 {
+                try_all(&bytes[..end], sides, &mut random);
+            }
+        }
+    }
+}
+
+/// The longest sheets of both forms, whole, a byte shorter, and a byte longer.
+#[test]
+fn the_longest_sheets() {
+    let mut random = Random::new(3);
+    for (sheet, length) in [(longest(), 3_273), (longest().with_services(&[]), 3_144)] {
+        let bytes = [sheet.bytes(), vec![0]].concat();
+        assert_eq!(bytes.len(), length + 1);
+        for end in [length, length - 1, length + 1] {
+            for sides in 0..8 {
+                try_all(&bytes[..end], sides, &mut random);
+                assert_eq!(try_pass(&bytes[..end], WORK_BYTES, SLIP_BYTES, sides).is_some(), end == length);
+            }
         }
     }
 }

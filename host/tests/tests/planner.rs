@@ -62,6 +62,13 @@ fn the_numbers_of_the_header() {
     assert_eq!(enumerated("WAYS_REFUSED_"), (0..=13).chain(15..=20).chain(22..=23).collect::<Vec<_>>());
 }
 
+#[test]
+fn the_version_of_the_changelog() {
+    let version = defined("WAYS_VERSION");
+    let newest = include_str!("../../../CHANGELOG.md").lines().find_map(|line| line.strip_prefix("## "));
+    assert_eq!(newest, Some(format!("{}.{}", version / 100, version % 100).as_str()));
+}
+
 /// Name and count of each field of a struct in the header, in its order.
 fn fields(name: &str) -> Vec<(&'static str, usize)> {
     let (_, rest) = HEADER.split_once(&format!("\nstruct {name} {{\n")).expect("the struct");
@@ -80,10 +87,11 @@ fn fields(name: &str) -> Vec<(&'static str, usize)> {
 #[test]
 fn the_store_of_the_header() {
     assert_eq!(fields("ways_slot"), [("first", 1), ("limit", 1), ("goals", 1), ("reasons", 1), ("items", ways::STORE_ITEMS)]);
-    let front = [("count", 1), ("nodes", 1), ("arcs", 1), ("source", 1), ("target", 1), ("legs", ways::STORE_LEGS)];
-    assert_eq!(fields("ways_store"), [&front[..], &[("slots", ways::STORE_SLIPS)]].concat());
-    assert_eq!((size_of::<ways::Store>(), align_of::<ways::Store>()), (13_332, 4));
-    assert!(HEADER.contains("13,332 bytes"));
+    let numbers = [("count", 1), ("nodes", 1), ("arcs", 1), ("source", 1), ("target", 1)];
+    let lists = [("legs", ways::STORE_LEGS), ("services", ways::STORE_SERVICES), ("slots", ways::STORE_SLIPS)];
+    assert_eq!(fields("ways_store"), [&numbers[..], &lists].concat());
+    assert_eq!((size_of::<ways::Store>(), align_of::<ways::Store>()), (13_588, 4));
+    assert!(HEADER.contains("13,588 bytes"));
 }
 
 #[test]

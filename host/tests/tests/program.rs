@@ -1,6 +1,6 @@
 //! The program `ways` run as a process. WAYS_PROGRAM names it; with CI set it has to be there, without it the tests say that they did nothing.
 
-use cases::{damaged, draw, sheet_b, Random, Sheet, FORBIDDEN, KINDS, MANDATORY};
+use cases::{damaged, draw, longest, served_b, sheet_b, Random, Sheet, FORBIDDEN, KINDS, MANDATORY};
 use tests::Program;
 
 fn program() -> Option<Program> {
@@ -8,7 +8,7 @@ fn program() -> Option<Program> {
 }
 
 #[test]
-fn what_document_01_prints() {
+fn what_document_01_and_request_2_7_print() {
     let Some(program) = program() else { return };
     let b = sheet_b();
     let print = |sheet: Sheet| program.printed(&[&sheet.bytes()]);
@@ -20,6 +20,9 @@ fn what_document_01_prints() {
     let both = b.with_limit(14).with_mark(1, MANDATORY).with_mark(2, MANDATORY).with_mark(8, FORBIDDEN);
     assert_eq!(print(both), "verdict 3\nneeds 1 2\nbecause 8\n");
     assert_eq!(print(b.with_limit(14).with_marks([1, 6], MANDATORY)), "verdict 3\nneeds 1 6\nbecause\n");
+    assert_eq!(print(served_b()), "verdict 1\nneeds\nbecause\n");
+    assert_eq!(print(served_b().with_limit(10)), "verdict 0\nstruck 2 6 7 8\n");
+    assert_eq!(print(b.with_services(&[0; 4])), "refused 11\n");
     assert_eq!(program.printed(&[]), "refused 3\n");
 }
 
@@ -40,17 +43,18 @@ fn sheets_of_every_kind() {
 #[test]
 fn long_inputs() {
     let Some(program) = program() else { return };
-    let bytes = sheet_b().bytes();
-    for length in [3_144, 3_145, 4_096, 8_191, 8_192, 8_193, 20_000, 1_000_000] {
-        let mut input = bytes.clone();
-        input.resize(length, 0);
-        program.try_input(&input);
+    for length in [3_144, 3_145, 3_273, 3_274, 4_096, 8_191, 8_192, 8_193, 20_000, 1_000_000] {
+        for mut input in [sheet_b().bytes(), served_b().bytes()] {
+            input.resize(length, 0);
+            program.try_input(&input);
+        }
     }
-    let arcs: Vec<[u32; 3]> = (0..512).map(|arc| [arc % 64, (arc + 1) % 64, 65_535]).collect();
-    let longest = Sheet::new(64, 0, 15, 1_000_000, &arcs).bytes();
-    assert_eq!(longest.len(), 3_144);
-    program.try_input(&longest);
-    program.try_input(&longest[..3_143]);
+    for (sheet, length) in [(longest(), 3_273), (longest().with_services(&[]), 3_144)] {
+        let bytes = sheet.bytes();
+        assert_eq!(bytes.len(), length);
+        assert!(program.try_input(&bytes).starts_with("verdict 0\n"));
+        assert_eq!(program.try_input(&bytes[..length - 1]), "refused 3\n");
+    }
     program.try_long_input();
 }
 
@@ -58,12 +62,13 @@ fn long_inputs() {
 #[test]
 fn input_in_pieces() {
     let Some(program) = program() else { return };
-    let bytes = sheet_b().bytes();
-    for cut in [1, 5, 20, 28] {
-        let (front, back) = bytes.split_at(cut);
-        assert_eq!(program.printed(&[front, back]), "verdict 0\nstruck 2 6 7 8\n");
+    for bytes in [sheet_b().bytes(), served_b().with_limit(10).bytes()] {
+        for cut in [1, 5, 20, 28] {
+            let (front, back) = bytes.split_at(cut);
+            assert_eq!(program.printed(&[front, back]), "verdict 0\nstruck 2 6 7 8\n");
+        }
+        assert_eq!(program.printed(&[&bytes[..3], &bytes[3..9], &bytes[9..], &[0]]), "refused 12\n");
     }
-    assert_eq!(program.printed(&[&bytes[..3], &bytes[3..9], &bytes[9..], &[0]]), "refused 12\n");
 }
 
 #[test]

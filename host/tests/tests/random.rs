@@ -6,7 +6,7 @@
 use cases::{alterations, damaged, draw, Kind, Random, Sheet, Slip, FORBIDDEN, MANDATORY, OPEN};
 use tests::{items_to_ask, with_close_limit, Desk};
 
-/// Every verdict comes up more often than this in each kind.
+/// Every verdict comes up more often than this in each kind and each form.
 const PLENTY: usize = 50;
 
 /// Slips that differ in nothing but what they claim: items with the right mark, and forbidden ones as reasons. Of the mandatory items, not all may be goals of a 3.
@@ -55,13 +55,14 @@ fn try_damaged(desk: &mut Desk, sheet: &Sheet, random: &mut Random) {
 fn try_sheets(kind: Kind, cases: usize) {
     let mut desk = Desk::new(kind as u64);
     let mut random = Random::new(1_000 + kind as u64);
-    let mut verdicts = [0; 4];
+    // of the old form and of the new one
+    let mut verdicts = [[0; 4]; 2];
     for _ in 0..cases {
         let drawn = draw(kind, &mut random);
         let sheet = with_close_limit(drawn, &mut random);
         let bytes = sheet.bytes();
         if let Some(slip) = desk.pass(&bytes) {
-            verdicts[usize::from(slip[0])] += 1;
+            verdicts[usize::from(sheet.is_new_form())][usize::from(slip[0])] += 1;
             try_checks(&mut desk, &sheet, &bytes, &slip, &mut random);
             for item in items_to_ask(&sheet, &slip, &mut random) {
                 if let Some(slip) = desk.reason(&bytes, item) {
@@ -72,7 +73,7 @@ fn try_sheets(kind: Kind, cases: usize) {
         try_damaged(&mut desk, &sheet, &mut random);
     }
     println!("{kind:?}: {cases} sheets, by verdict {verdicts:?}; calls of pass, reason, check {:?}; by refusal {:?}", desk.calls, desk.drawn);
-    assert!(verdicts.iter().all(|&count| count > PLENTY), "a verdict is rare: {verdicts:?}");
+    assert!(verdicts.as_flattened().iter().all(|&count| count > PLENTY), "a verdict is rare: {verdicts:?}");
 }
 
 #[test]

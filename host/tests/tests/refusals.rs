@@ -75,15 +75,16 @@ impl Calls {
 
     fn write(&mut self, draft: &Draft) {
         let room = self.room(SHEET_BYTES);
-        let answer = numbers::write(draft.front, &draft.arcs, &draft.marks, &mut self.sheet[..room]);
+        let answer = numbers::write(draft.header, &draft.arcs, &draft.marks, &draft.services, &mut self.sheet[..room]);
         self.given.write.insert(answer / REFUSED);
     }
 }
 
-/// The sheet with the longest arcs that there are, of which eight or all are mandatory and nothing else is.
+/// The sheet with the longest arcs and the longest services that there are; eight arcs or all are mandatory, and nothing else is.
 fn slow(sheet: &Sheet, random: &mut Random) -> Sheet {
     let mut slow = sheet.clone();
     slow.arcs.iter_mut().for_each(|arc| arc[2] = 65_535);
+    slow.services.fill(600);
     slow.marks.iter_mut().filter(|mark| **mark == MANDATORY).for_each(|mark| *mark = OPEN);
     let (nodes, arcs) = (slow.nodes as usize, slow.arcs.len());
     let first = random.below(arcs.max(1));

@@ -62,10 +62,25 @@ fn samples_say_what_they_are() {
     }
 }
 
+fn named(name: &str) -> Sample {
+    sheets().into_iter().find(|sample| sample.path.file_stem().is_some_and(|stem| stem == name)).expect("the sample")
+}
+
+/// Without its first number and its service minutes, of which each is one byte, the sheet has the old form, and other items are struck.
+#[test]
+fn service_minutes_decide_a_sample() {
+    let sample = named("unloading");
+    let nodes = sample.bytes[1] as usize;
+    let old = &sample.bytes[1..sample.bytes.len() - nodes];
+    let printed = reference::program(old);
+    assert_eq!(below(&sample.text(), "In the old form, without the minutes at the doors, it prints"), printed);
+    assert!(printed.starts_with("verdict 0\n") && printed != sample.printed);
+    Desk::new(4).pass(old).expect("a good sheet");
+}
+
 /// The slip of the morning's sheet is put, and the later sheet asked about.
 #[test]
 fn the_shelf_answers_a_sample() {
-    let named = |name: &str| sheets().into_iter().find(|sample| sample.path.file_stem().is_some_and(|stem| stem == name)).expect("the sample");
     let (morning, noon) = (named("harbour-morning"), named("harbour-noon"));
     let slip = Desk::new(3).pass(&morning.bytes).expect("a good sheet");
     assert_eq!(hex(&slip), morning.written("The slip that is put, in hex"));
@@ -100,7 +115,7 @@ fn formats_name_every_sample() {
 
 #[test]
 fn formats_ask_the_tool() {
-    let b = sheets().into_iter().find(|sample| sample.path.ends_with("b.sheet")).expect("the sheet B");
+    let b = named("b");
     let (_, text) = FORMATS.split_once("printf '\\2' | cat - samples/b.sheet | target/bin/cost\n\nprints\n\n").expect("the command");
     assert_eq!(indented(text), reference::cost(&[vec![2], b.bytes].concat()));
 }

@@ -1,5 +1,5 @@
-//! The shelf beside the reference's (request 2.6): its examples, full shelves, and weeks of puts and asks on one store. After each call what the shelf holds is
-//! compared slip by slip, and every byte of what was lent and around it.
+//! The shelf beside the reference's (requests 2.6 and 2.7): the examples, full shelves, and weeks of puts and asks on one store. After each call what the shelf
+//! holds is compared slip by slip, and every byte of what was lent and around it.
 
 use cases::{crowd, draw, sheet_b, shelf_examples, Example, Habit, Kind, Random, Sheet, Slip, Step, Turn, Week, FORBIDDEN, OPEN};
 use tests::{bytes_of, with_close_limit, ShelfDesk, Tally, REFUSED};
@@ -72,13 +72,15 @@ fn empty_stores() {
     let mut made = Store::zeroed();
     let any = |numbers: &mut [u32], random: &mut Random| numbers.iter_mut().for_each(|number| *number = random.bits() as u32);
     any(&mut made.legs, &mut random);
+    any(&mut made.services, &mut random);
     made.slots.iter_mut().for_each(|slot| any(&mut slot.items, &mut random));
     made.count = u32::MAX;
     made.empty();
-    assert_eq!(bytes_of(&made), vec![0; 13_332]);
+    assert_eq!(bytes_of(&made), vec![0; 13_588]);
     assert!(made == Store::zeroed());
     let mut counted = Store::zeroed();
     any(&mut counted.legs, &mut random);
+    any(&mut counted.services, &mut random);
     let (mut work, mut slip) = (vec![0; WORK_BYTES], vec![0; SLIP_BYTES]);
     let closed = sheet_b().with_mark(1, FORBIDDEN);
     for mut store in [Store::zeroed(), made, counted] {

@@ -1,7 +1,7 @@
 //! The stack that a call needs: every operation on the largest sheets, in a thread with room to spare, to see what it takes, and then in one whose stack has just
 //! the bytes that `ways.h` states for it.
 
-use cases::{crowd, Draft, Random, Sheet, Slip, FORBIDDEN, MANDATORY, OPEN};
+use cases::{crowd, longest, Draft, Random, Sheet, Slip, FORBIDDEN, MANDATORY, OPEN};
 use tests::{defined, stack_used, REFUSED};
 use ways::{numbers, Store, SHEET_BYTES, SLIP_BYTES, STORE_ITEMS, STORE_SLIPS, WORK_BYTES};
 
@@ -29,12 +29,6 @@ fn full(most: usize) -> Sheet {
     Sheet::new(NODES as u32, 0, NODES as u32 - 1, 0, &arcs)
 }
 
-/// The longest sheet that there is.
-fn longest() -> Sheet {
-    let arcs: Vec<[u32; 3]> = (0..ARCS as u32).map(|arc| [arc % 64, (arc + 1) % 64, 65_535]).collect();
-    Sheet::new(NODES as u32, 0, 15, 1_000_000, &arcs)
-}
-
 /// Eight mandatory nodes.
 fn demanding(sheet: &Sheet) -> Sheet {
     sheet.with_marks((0..8).map(|i| 3 + 7 * i), MANDATORY)
@@ -56,31 +50,38 @@ fn least(sheet: &Sheet) -> u32 {
     reference::least(&read, &read.required_items).expect("a walk") as u32
 }
 
-/// Sheets with the first number of the slip that the pass writes for them.
+/// Sheets with the first number of the slip that the pass writes for them, in both forms.
 fn sheets() -> Vec<(Sheet, u8)> {
-    let plain = full(100);
-    let eight = demanding(&plain);
+    let old = full(100);
+    let services: Vec<u32> = (0..NODES as u32).map(|node| node * 7 % 601).collect();
+    let new = old.with_services(&services);
+    let longest = [longest(), longest().with_services(&[])]
+        .into_iter()
+        .flat_map(|longest| [(longest.clone(), 0), (demanding(&longest).with_limit(1_000_000), 2), (longest.with_marks(NODES..NODES + ARCS, FORBIDDEN), 1)]);
+    [old, new].iter().flat_map(sheets_of).chain(longest).collect()
+}
+
+/// Sheets with the map of one.
+fn sheets_of(plain: &Sheet) -> Vec<(Sheet, u8)> {
+    let eight = demanding(plain);
     let closed = half_closed(&eight);
     let between = (least(&eight) + least(&closed)) / 2;
-    let arcs = driven(&plain);
+    let arcs = driven(plain);
     let arcs_closed = half_closed(&arcs);
     let last_mandatory = NODES + ARCS - 1;
-    let tight = half_closed(&plain);
+    let tight = half_closed(plain);
     vec![
         (eight.with_limit(least(&eight)), 0),
         (closed.with_limit(least(&closed)), 0),
         (tight.with_limit(least(&tight)), 0),
-        (plain.with_marks(0..NODES + ARCS, FORBIDDEN).with_limit(least(&plain)), 1),
-        (closed.with_limit(least(&half_closed(&plain)) - 1), 1),
-        (plain.with_mark(last_mandatory, MANDATORY).with_limit(least(&plain)), 2),
+        (plain.with_marks(0..NODES + ARCS, FORBIDDEN).with_limit(least(plain)), 1),
+        (closed.with_limit(least(&half_closed(plain)) - 1), 1),
+        (plain.with_mark(last_mandatory, MANDATORY).with_limit(least(plain)), 2),
         (closed.with_limit(between), 3),
         (closed.with_limit(least(&eight) - 1), 3),
         (arcs.with_limit(least(&arcs)), 0),
         (arcs_closed.with_limit((least(&arcs) + least(&arcs_closed)) / 2), 3),
         (arcs_closed.with_limit(least(&arcs) - 1), 3),
-        (longest(), 0),
-        (demanding(&longest()).with_limit(1_000_000), 2),
-        (longest().with_marks(NODES..NODES + ARCS, FORBIDDEN), 1),
     ]
 }
 
@@ -145,7 +146,7 @@ impl Calls {
 
     fn write(&mut self, sheet: &Sheet) {
         let (draft, mut again) = (Draft::of(sheet), vec![0; SHEET_BYTES]);
-        let length = self.call(Operation::Write, &mut |_, _| numbers::write(draft.front, &draft.arcs, &draft.marks, &mut again)) as usize;
+        let length = self.call(Operation::Write, &mut |_, _| numbers::write(draft.header, &draft.arcs, &draft.marks, &draft.services, &mut again)) as usize;
         assert_eq!(again[..length], sheet.bytes());
     }
 

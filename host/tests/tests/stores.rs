@@ -15,18 +15,19 @@ fn any_numbers(random: &mut Random) -> Box<Store> {
     let mut store = Store::zeroed();
     let repeated = random.pick(&[None, None, Some(u32::MAX), Some(0x8000_0000), Some(1)]);
     let mut number = || repeated.unwrap_or(random.bits() as u32);
-    let Store { count, nodes, arcs, source, target, legs, slots } = &mut *store;
-    [count, nodes, arcs, source, target].into_iter().chain(legs).for_each(|field| *field = number());
+    let Store { count, nodes, arcs, source, target, legs, services, slots } = &mut *store;
+    [count, nodes, arcs, source, target].into_iter().chain(legs).chain(services).for_each(|field| *field = number());
     for Slot { first, limit, goals, reasons, items } in slots {
         [first, limit, goals, reasons].into_iter().chain(items).for_each(|field| *field = number());
     }
     store
 }
 
-/// Gives the store the map of the sheet, start and finish too. Where that has all the legs that there can be, a greater count shows the same.
+/// Gives the store the map of the sheet, its service minutes, start and finish too. Where that has all the legs that there can be, a greater count shows the same.
 fn fix_map(store: &mut Store, sheet: &Sheet, random: &mut Random) {
     (store.nodes, store.source, store.target) = (sheet.nodes, sheet.source, sheet.target);
-    store.legs[..3 * sheet.arcs.len()].copy_from_slice(sheet.arcs.as_flattened());
+    store.legs[..3 * sheet.arcs.len()].copy_from_slice(sheet.in_old_form().arcs.as_flattened());
+    store.services[..sheet.nodes as usize].copy_from_slice(&sheet.service_list());
     store.arcs = sheet.arcs.len() as u32;
     if store.arcs == 512 {
         store.arcs = random.pick(&[512, 513, 0x5555_5556, u32::MAX]);
@@ -67,12 +68,14 @@ fn any_slip(sheet: &Sheet, fitting: usize, random: &mut Random) -> Slot {
 fn spoil(store: &mut Store, random: &mut Random) {
     let odd = random.pick(&EXTREME);
     let slot = random.below(store.slots.len());
-    match random.below(6) {
+    match random.below(8) {
         0 => store.count = odd,
         1 => store.arcs = odd,
         2 => store.legs[random.below(1_536)] ^= 1,
         3 => store.slots[slot].goals = odd,
         4 => store.slots[slot].reasons = odd,
+        5 => store.services[random.below(64)] ^= 1,
+        6 => store.nodes = odd,
         _ => store.target = odd,
     }
 }

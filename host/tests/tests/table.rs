@@ -1,13 +1,14 @@
-//! The library on the lines of document 01, 'The sheet B and what it gives', and on those of request 2.3, byte by byte. Every call is held to the reference as well.
+//! The library on the lines of document 01, 'The sheet B and what it gives', and on those of requests 2.3 and 2.7, byte by byte. Every call is held to the reference as
+//! well.
 
-use cases::{checks, driven, formats, sheet_b, starred, with_required, Line, FORBIDDEN, MANDATORY};
+use cases::{checks, driven, formats, served, served_b, sheet_b, starred, with_required, Line, FORBIDDEN, MANDATORY};
 use tests::{Call, Desk, REFUSED};
 use ways::{SLIP_BYTES, WORK_BYTES};
 
 #[test]
 fn the_table_of_b() {
     let mut desk = Desk::new(1);
-    for Line { sheet, item, slip } in starred().into_iter().chain(driven()) {
+    for Line { sheet, item, slip } in starred().into_iter().chain(driven()).chain(served()) {
         let written = match item {
             None => desk.pass(&sheet.bytes()),
             Some(item) => desk.reason(&sheet.bytes(), item),
@@ -20,6 +21,15 @@ fn the_table_of_b() {
 fn the_bytes_of_b() {
     let hex = "04 05 00 03 08 00 01 04 01 03 04 00 02 03 02 03 09 01 02 01 00 00 00 00 00 00 00 00 00";
     assert_eq!(tests::hex(&sheet_b().bytes()), hex);
+    assert_eq!(tests::hex(&served_b().bytes()), format!("01 {hex} 00 02 00 00"));
+}
+
+/// The sheets of request 2.7 on which a walk comes to its source again, and passes a place twice.
+#[test]
+fn the_bytes_of_request_2_7() {
+    let lines: Vec<String> = served().iter().map(|line| tests::hex(&line.sheet.bytes())).collect();
+    assert_eq!(lines[3], "01 03 03 00 01 03 00 01 00 00 02 01 02 00 01 00 00 01 00 00 00 02 00 00");
+    assert_eq!(lines[5], "01 04 04 00 03 08 00 01 01 01 02 01 02 01 01 01 03 01 00 01 01 00 00 00 00 00 00 02 00 00");
 }
 
 #[test]
@@ -42,7 +52,7 @@ fn checks_of_a_3() {
     }
 }
 
-/// The points that document 01 leaves to docs/DECISIONS.md.
+/// The points that document 01 and request 2.7 leave to docs/DECISIONS.md.
 #[test]
 fn decided_points() {
     let mut desk = Desk::new(3);
@@ -51,9 +61,14 @@ fn decided_points() {
     assert_eq!(refusal(&[0x80, 0x80, 0x80]), 3);
     assert_eq!(refusal(&[0x80, 0x80, 0x80, 0]), 4);
     assert_eq!(refusal(&[0x80, 0x80, 0x80, 0x80]), 4);
-    assert_eq!(refusal(&[1]), 5, "judged before the next is begun");
+    assert_eq!(refusal(&[0]), 5, "judged before the next is begun");
+    assert_eq!(refusal(&[1]), 3, "the new form, which ends too early");
+    assert_eq!(refusal(&[1, 1]), 5, "no place count behind it");
+    assert_eq!(refusal(&[0x81, 0]), 4, "badly written before all else");
+    assert_eq!(refusal(&[1, 0x84, 0]), 4);
     assert_eq!(refusal(&[4, 5, 4]), 7);
     assert_eq!(refusal(&[with_required(9).bytes(), vec![0]].concat()), 12, "12 before 13");
+    assert_eq!(refusal(&[with_required(9).with_services(&[0; 11]).bytes(), vec![0]].concat()), 11, "no service before 12 and 13");
     let b = sheet_b();
     let bytes = b.with_limit(7).bytes();
     assert_eq!(desk.call(Call::Reason(SLIP_BYTES, 9), &bytes, WORK_BYTES) / REFUSED, 15, "15 before 16 where the round is refused");

@@ -8,7 +8,7 @@ pub const WORK_BYTES: usize = 65_536;
 pub const SLIP_BYTES: usize = 1_200;
 
 /// The most bytes that a sheet has.
-pub const SHEET_BYTES: usize = 3_144;
+pub const SHEET_BYTES: usize = 3_273;
 
 /// The most slips that a store holds.
 pub const STORE_SLIPS: usize = 64;
@@ -16,6 +16,8 @@ pub const STORE_SLIPS: usize = 64;
 pub const STORE_ITEMS: usize = 24;
 /// The numbers of a store's map, three for each of 512 legs.
 pub const STORE_LEGS: usize = 1_536;
+/// The service minutes of a store's map, one number for each of 64 places.
+pub const STORE_SERVICES: usize = 64;
 
 /// The archive that this crate links, for programs in C that are to link the same.
 pub const ARCHIVE: &str = env!("WAYS_LINKED_ARCHIVE");
@@ -41,6 +43,8 @@ pub mod numbers {
                 legs_count: usize,
                 marks: *const u8,
                 marks_len: usize,
+                services: *const u32,
+                services_count: usize,
                 sheet: *mut u8,
                 sheet_len: usize,
             ) -> u32;
@@ -73,10 +77,26 @@ pub mod numbers {
         unsafe { c::ways_check(sheet.as_ptr(), sheet.len(), work.as_mut_ptr(), work.len(), slip.as_ptr(), slip.len()) }
     }
 
-    /// `front` has the five numbers that a sheet begins with.
-    pub fn write(front: [u32; 5], legs: &[u32], marks: &[u8], sheet: &mut [u8]) -> u32 {
-        let [n, m, start, finish, limit] = front;
-        unsafe { c::ways_write(n, m, start, finish, limit, legs.as_ptr(), legs.len(), marks.as_ptr(), marks.len(), sheet.as_mut_ptr(), sheet.len()) }
+    /// `header` has the five numbers that stand before the legs.
+    pub fn write(header: [u32; 5], legs: &[u32], marks: &[u8], services: &[u32], sheet: &mut [u8]) -> u32 {
+        let [n, m, start, finish, limit] = header;
+        unsafe {
+            c::ways_write(
+                n,
+                m,
+                start,
+                finish,
+                limit,
+                legs.as_ptr(),
+                legs.len(),
+                marks.as_ptr(),
+                marks.len(),
+                services.as_ptr(),
+                services.len(),
+                sheet.as_mut_ptr(),
+                sheet.len(),
+            )
+        }
     }
 
     pub fn store_put(store: &mut Store, sheet: &[u8], work: &mut [u8], slip: &[u8]) -> u32 {
@@ -104,7 +124,7 @@ pub struct Slot {
     pub items: [u32; STORE_ITEMS],
 }
 
-/// A shelf of slips for one map, start and finish. Treat it as closed. It is large, so keep it where it is.
+/// A shelf of slips for one map, its service minutes, start and finish. Treat it as closed. It is large, so keep it where it is.
 #[repr(C)]
 #[derive(Clone, Debug, PartialEq, Eq)]
 pub struct Store {
@@ -113,8 +133,10 @@ pub struct Store {
     pub arcs: u32,
     pub source: u32,
     pub target: u32,
-    /// tail, head and minutes of each leg
+    /// of each leg the tail, the head, and its minutes plus the service minutes of the head
     pub legs: [u32; STORE_LEGS],
+    /// service minutes of each place
+    pub services: [u32; STORE_SERVICES],
     /// in the order of puts
     pub slots: [Slot; STORE_SLIPS],
 }
@@ -179,12 +201,15 @@ pub struct Draft<'a> {
     pub legs: &'a [[u32; 3]],
     /// of the places, then of the legs
     pub marks: &'a [u8],
+    /// service minutes of each place
+    pub services: &'a [u32],
 }
 
-/// Writes a draft as a sheet, and gives the sheet's length.
+/// Writes a draft as a sheet, in the old form where no place has service minutes, and gives the sheet's length.
 pub fn write(draft: &Draft, sheet: &mut [u8]) -> Result<usize, Refused> {
     let legs = u32::try_from(draft.legs.len()).unwrap_or(u32::MAX);
-    answer(numbers::write([draft.places, legs, draft.start, draft.finish, draft.limit], draft.legs.as_flattened(), draft.marks, sheet))
+    let header = [draft.places, legs, draft.start, draft.finish, draft.limit];
+    answer(numbers::write(header, draft.legs.as_flattened(), draft.marks, draft.services, sheet))
 }
 
 fn answer(number: u32) -> Result<usize, Refused> {

@@ -3,19 +3,22 @@ use borrow.Author.Needs.{needs}
 use Prim.Native.Nat.{_*_, _+_}
 use mathlib.Core.Path.{sym}
 use native.Mathlib.Omega.{arith}
-use lib.ListN.{take}
-use Rattle.sheet_reader.specs.Loaded.{Loaded}
+use lib.ListN.{take, length-take}
+use Rattle.sheet_reader.specs.Loaded.{LoadedPage}
 use Rattle.examples.proofs.show_again.Statement.{statement}
 use Rattle.examples.proofs.show_again.Tie as tie
 
-slice-aggregate-read : tie.Need-slice-aggregate-read
-slice-aggregate-read c = search needs
+slice-aggregate-read-page : tie.Need-slice-aggregate-read-page
+slice-aggregate-read-page c = search needs
 
-slice-aggregate-read-2 : tie.Need-slice-aggregate-read-2
-slice-aggregate-read-2 c = search needs
+slice-aggregate-read-page-2 : tie.Need-slice-aggregate-read-page-2
+slice-aggregate-read-page-2 c = search needs
 
-read-requires : tie.Need-read-requires
-read-requires c κs = search needs
+slice-aggregate-read-page-3 : tie.Need-slice-aggregate-read-page-3
+slice-aggregate-read-page-3 c = search needs
+
+read-page-requires : tie.Need-read-page-requires
+read-page-requires c κs = search needs
 
 enum-known-header : tie.Need-enum-known-header
 enum-known-header c = search needs
@@ -27,9 +30,10 @@ returns : tie.Need-returns
 returns c = search needs
 
 -- the sheet that was read
-loaded : (p : tie.After-header) → let q = p .before .before .before .before .read in
-    Loaded (p .before .before .before .before .before .before .before .before .before .args .sheet .now) (p .header .given .0 .0) (take (3 * p .header .given .0 .0 .arcs) (q .last .1 .0)) (take (p .header .given .0 .0 .nodes + p .header .given .0 .0 .arcs) (q .last .1 .1 .0))
-loaded p = p .before .before .before .before .read .ensures .1 .1 .1 .took _ (p .header .given .1)
+loaded : (p : tie.After-header) → let q = p .before .before .before .before .before .read-page in
+    let h = p .header .given .0 .0 in
+    LoadedPage (p .before .before .before .before .before .before .before .before .before .before .before .args .sheet .now) h (take (3 * h .arcs) (q .last .1 .0)) (take (h .nodes + h .arcs) (q .last .1 .1 .0)) (take (h .nodes) (q .last .1 .1 .1 .0))
+loaded p = p .before .before .before .before .before .read-page .ensures .1 .1 .1 .1 .took _ (p .header .given .1)
 
 mul-numbers : tie.Need-mul-numbers
 mul-numbers c = omega (arith, loaded (c .before .before) .whole .few)
@@ -37,17 +41,32 @@ mul-numbers c = omega (arith, loaded (c .before .before) .whole .few)
 add-items : tie.Need-add-items
 add-items c = let W = loaded (c .before .before .before) .whole in omega (arith, W .few, W .proper .few)
 
+slice-aggregate-give-back : tie.Need-slice-aggregate-give-back
+slice-aggregate-give-back c = search needs
+
+slice-aggregate-give-back-2 : tie.Need-slice-aggregate-give-back-2
+slice-aggregate-give-back-2 c = search needs
+
+give-back-requires : tie.Need-give-back-requires
+give-back-requires c κs = search needs
+
 array-share-prefix-legs : tie.Need-array-share-prefix-legs
-array-share-prefix-legs c = omega (arith, loaded (c .before .before .before) .whole .few, c .before .before .before .before .before .before .before .read .kept .1 .0)
+array-share-prefix-legs c = omega (arith, loaded (c .before .before .before .before .before .before .before) .whole .few, c .before .give-back .kept .0, c .before .before .before .before .before .before .before .before .before .before .before .before .read-page .kept .1 .0)
 
 slice-aggregate-show-write : tie.Need-slice-aggregate-show-write
-slice-aggregate-show-write c = sym (loaded (c .before .before .before .before) .whole .sized .0)
+slice-aggregate-show-write c = simp length-take (omega (arith, loaded (c .before .before .before .before .before .before .before .before) .whole .few, c .before .before .give-back .kept .0, c .before .before .before .before .before .before .before .before .before .before .before .before .before .read-page .kept .1 .0))
 
 array-share-prefix-marks : tie.Need-array-share-prefix-marks
-array-share-prefix-marks c = let W = loaded (c .before .before .before .before) .whole in omega (arith, W .few, W .proper .few, c .before .before .before .before .before .before .before .before .read .kept .1 .1 .0)
+array-share-prefix-marks c = let W = loaded (c .before .before .before .before .before .before .before .before) .whole in omega (arith, W .few, W .proper .few, c .before .before .before .before .before .before .before .before .before .before .before .before .before .read-page .kept .1 .1 .0)
 
 slice-aggregate-show-write-2 : tie.Need-slice-aggregate-show-write-2
-slice-aggregate-show-write-2 c = sym (loaded (c .before .before .before .before .before) .whole .sized .1)
+slice-aggregate-show-write-2 c = sym (loaded (c .before .before .before .before .before .before .before .before .before) .whole .sized .1)
+
+array-share-prefix-services : tie.Need-array-share-prefix-services
+array-share-prefix-services c = omega (arith, loaded (c .before .before .before .before .before .before .before .before .before) .whole .proper .few, c .before .before .before .before .before .before .before .before .before .before .before .before .before .before .read-page .kept .1 .1 .1 .0)
+
+slice-aggregate-show-write-3 : tie.Need-slice-aggregate-show-write-3
+slice-aggregate-show-write-3 c = sym (loaded (c .before .before .before .before .before .before .before .before .before .before) .count)
 
 show-write-requires : tie.Need-show-write-requires
 show-write-requires c κs = search needs
@@ -59,17 +78,23 @@ pub show-again-spec : {M : Type 1} → statement M
 show-again-spec =
     tie.close
     (tie.spec
-    slice-aggregate-read
-    slice-aggregate-read-2
-    read-requires
+    slice-aggregate-read-page
+    slice-aggregate-read-page-2
+    slice-aggregate-read-page-3
+    read-page-requires
     enum-known-header
     enum-told
     returns
     mul-numbers
     add-items
+    slice-aggregate-give-back
+    slice-aggregate-give-back-2
+    give-back-requires
     array-share-prefix-legs
     slice-aggregate-show-write
     array-share-prefix-marks
     slice-aggregate-show-write-2
+    array-share-prefix-services
+    slice-aggregate-show-write-3
     show-write-requires
     returns-2)

@@ -20,6 +20,9 @@ slice-aggregate-write-sheet-2 c = search needs
 slice-aggregate-write-sheet-3 : tie.Need-slice-aggregate-write-sheet-3
 slice-aggregate-write-sheet-3 c = search needs
 
+slice-aggregate-write-sheet-4 : tie.Need-slice-aggregate-write-sheet-4
+slice-aggregate-write-sheet-4 c = search needs
+
 write-sheet-requires : tie.Need-write-sheet-requires
 write-sheet-requires c κs = search needs
 
@@ -27,7 +30,7 @@ array-share-prefix-sheet : tie.Need-array-share-prefix-sheet
 array-share-prefix-sheet c = search needs
 
 slice-aggregate-show-pass : tie.Need-slice-aggregate-show-pass
-slice-aggregate-show-pass c = simp length-take (omega (arith, c .before .if1 .taken, c .before .before .before .write-sheet .kept .1 .1 .1 .0))
+slice-aggregate-show-pass c = simp length-take (omega (arith, c .before .if1 .taken, c .before .before .before .write-sheet .kept .1 .1 .1 .1 .0))
 
 show-pass-requires : tie.Need-show-pass-requires
 show-pass-requires c κs = search needs
@@ -47,6 +50,7 @@ show-ring-spec =
     slice-aggregate-write-sheet
     slice-aggregate-write-sheet-2
     slice-aggregate-write-sheet-3
+    slice-aggregate-write-sheet-4
     write-sheet-requires
     array-share-prefix-sheet
     slice-aggregate-show-pass

@@ -24,7 +24,7 @@ write-sheet-requires : tie.Need-write-sheet-requires
 write-sheet-requires c κs = search needs
 
 slice-aggregate-show-written : tie.Need-slice-aggregate-show-written
-slice-aggregate-show-written c = simp (length-append, length-take, length-drop) (omega (arith, simp length-take at (c .before .before .write-sheet .kept .1 .1 .1 .0)))
+slice-aggregate-show-written c = simp (length-append, length-take, length-drop) (omega (arith, simp length-take at (c .before .before .write-sheet .kept .1 .1 .1 .1 .0)))
 
 show-written-requires : tie.Need-show-written-requires
 show-written-requires c κs = search needs

@@ -8,13 +8,13 @@ write-sheet-requires : tie.Need-write-sheet-requires
 write-sheet-requires c κs = search needs
 
 one-number-requires : tie.Need-one-number-requires
-one-number-requires c κs = write-small _ _ _ _ _ (c .before .before .write-sheet .ensures)
+one-number-requires c κs = write-small _ _ _ (c .before .before .write-sheet .ensures)
 
 same-length : tie.Need-same-length
 same-length c = search needs
 
 returns : tie.Need-returns
-returns c = write-number _ _ _ _ _ (c .before .before .before .write-sheet .ensures) (c .one-number .ensures)
+returns c = write-number _ _ _ (c .before .before .before .write-sheet .ensures) (c .one-number .ensures)
 
 pub ways-write-spec : {M : Type 1} → statement M
 ways-write-spec = tie.close (tie.spec write-sheet-requires one-number-requires same-length returns)

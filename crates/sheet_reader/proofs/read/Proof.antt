@@ -1,34 +1,14 @@
--- `read` reads the header, and hands the rest of the sheet, from the fifth number's end on, to `read_behind`. Assumes nothing.
-use borrow.Author.Needs.{needs}
-use mathlib.Core.Path.{ap, sym, subst, _∙_}
-use Rattle.sheet_parts.specs.Sections.{headerIn, HeaderFits}
+-- `read` is `read_page` with service minutes of its own. Assumes nothing.
 use Rattle.sheet_reader.proofs.LoadedLaws.{read-as}
-use Rattle.sheet_reader.proofs.TakenLaws.{header-refused, header-read, part-all}
+use borrow.Author.Needs.{needs}
 use Rattle.sheet_reader.proofs.read.Statement.{statement}
 use Rattle.sheet_reader.proofs.read.Tie as tie
 
-header-of-requires : tie.Need-header-of-requires
-header-of-requires c κs = search needs
+slice-aggregate-read-page : tie.Need-slice-aggregate-read-page
+slice-aggregate-read-page c = search needs
 
-enum-known-header : tie.Need-enum-known-header
-enum-known-header c = search needs
-
-sub-read-behind : tie.Need-sub-read-behind
-sub-read-behind c = subst (HeaderFits _) (c .before .header .given .1) (c .before .before .before .header-of .ensures .1) .inside
-
-part-read-behind-start : tie.Need-part-read-behind-start
-part-read-behind-start c = subst (HeaderFits _) (c .before .header .given .1) (c .before .before .before .header-of .ensures .1) .inside
-
-part-read-behind-end : tie.Need-part-read-behind-end
-part-read-behind-end c = search needs
-
-read-behind-requires : tie.Need-read-behind-requires
-read-behind-requires c κs =
-    let f = subst (HeaderFits _) (c .before .before .before .before .header .given .1) (c .before .before .before .before .before .before .header-of .ensures .1) in
-    (f .few, f .arcs, c .before .before .before .before .before .before .before .before .before .before .pre .0, c .before .before .before .before .before .before .before .before .before .before .pre .1)
-
-enum-known-why : tie.Need-enum-known-why
-enum-known-why c = search needs
+read-page-requires : tie.Need-read-page-requires
+read-page-requires c κs = search needs
 
 same-length : tie.Need-same-length
 same-length c = search needs
@@ -37,31 +17,9 @@ same-length-2 : tie.Need-same-length-2
 same-length-2 c = search needs
 
 returns : tie.Need-returns
-returns c =
-    let s = c .before .before .before .before .before .before .before .before .before .before .before .before .before .before .before .args .sheet .now in
-    let e = part-all s (c .before .before .before .before .before .before .before .before .before .header .given .0 .1 .0) in
-    let w = c .before .before .before .before .read-behind .ensures in
-    let h = header-read _ _ _ (ap (headerIn _) (sym (c .before .before .before .before .before .before .before .before .before .header .given .1)) ∙ c .before .before .before .before .before .before .before .before .before .before .before .header-of .ensures .0)
-    (rw e at (w .0)) (rw e at (w .1 .0)) (rw e at (w .1 .1)) in
-    (h .0, (h .1 .0, (h .1 .1, read-as _ _ _ _ _ _ (h .0) (h .1 .0) (h .1 .1))))
-
-returns-2 : tie.Need-returns-2
-returns-2 c =
-    let h = header-refused _ _ _ (ap (headerIn _) (sym (c .before .why .given .1)) ∙ c .before .before .before .header-of .ensures .0) in
-    (h .0, (h .1 .0, (h .1 .1, read-as _ _ _ _ _ _ (h .0) (h .1 .0) (h .1 .1))))
+returns c = let w = c .before .before .before .before .before .read-page .ensures in (w .0, (w .1 .0, (w .1 .1 .0, read-as (w .1 .1 .1 .1))))
 
 pub read-spec : {M : Type 1} → statement M
 read-spec =
     tie.close
-    (tie.spec
-    header-of-requires
-    enum-known-header
-    sub-read-behind
-    part-read-behind-start
-    part-read-behind-end
-    read-behind-requires
-    enum-known-why
-    same-length
-    same-length-2
-    returns
-    returns-2)
+    (tie.spec slice-aggregate-read-page read-page-requires same-length same-length-2 returns)

@@ -1,6 +1,8 @@
 -- `arc_view` reads the sheet, passes over the numbers before the arc's and over its own, and hands back what stands between. Assumes nothing.
 use borrow.Author.Needs.{needs}
-use mathlib.Core.Path.{refl, sym, _∙_}
+use mathlib.Core.Path.{refl, ap, sym, _∙_}
+use native.Mathlib.Omega.{arith}
+use Rattle.sheet.specs.Reader.{past}
 use Rattle.sheet_view.proofs.ViewLaws.{in-order, view-refused, view-none, view-part}
 use Rattle.sheet_view.proofs.arc_view.Statement.{statement}
 use Rattle.sheet_view.proofs.arc_view.Tie as tie
@@ -48,6 +50,9 @@ returns-2 c =
     let h = view-none _ _ _ (sym (c .before .before .before .before .header .given .1) ∙ c .before .before .before .before .before .before .before .before .read .ensures .0) (c .before .if1 .taken) in
     ((refl, h .0), h .1)
 
+content-at-requires : tie.Need-content-at-requires
+content-at-requires c κs = search needs
+
 mul-past-numbers : tie.Need-mul-past-numbers
 mul-past-numbers c = search needs
 
@@ -55,7 +60,7 @@ add-past-numbers : tie.Need-add-past-numbers
 add-past-numbers c = search needs
 
 past-numbers-requires : tie.Need-past-numbers-requires
-past-numbers-requires c κs = search needs
+past-numbers-requires c κs = omega (arith, c .content-at .ensures .1 .1)
 
 past-numbers-requires-2 : tie.Need-past-numbers-requires-2
 past-numbers-requires-2 c κs = c .past-numbers .ensures .1
@@ -71,8 +76,8 @@ part-result-end-3 c = c .past-numbers2 .ensures .1
 
 returns-3 : tie.Need-returns-3
 returns-3 c =
-    let h = view-part _ _ _ (sym (c .before .before .before .before .before .before .header .given .1) ∙ c .before .before .before .before .before .before .before .before .before .before .read .ensures .0) (c .before .before .before .if1 .left)
-    (c .before .before .past-numbers .ensures .0) (c .before .past-numbers2 .ensures .0) (c .before .before .past-numbers .ensures .1) (c .before .past-numbers2 .ensures .1) in
+    let h = view-part _ _ _ (sym (c .before .before .before .before .before .before .before .header .given .1) ∙ c .before .before .before .before .before .before .before .before .before .before .before .read .ensures .0) (c .before .before .before .before .if1 .left)
+    (c .before .before .past-numbers .ensures .0 ∙ ap (past _) (c .before .before .before .content-at .ensures .1 .0)) (c .before .past-numbers2 .ensures .0) (c .before .before .past-numbers .ensures .1) (c .before .past-numbers2 .ensures .1) in
     ((refl, h .0), h .1)
 
 pub arc-view-spec : {M : Type 1} → statement M
@@ -92,6 +97,7 @@ arc-view-spec =
     part-result-start-2
     part-result-end-2
     returns-2
+    content-at-requires
     mul-past-numbers
     add-past-numbers
     past-numbers-requires

@@ -21,9 +21,12 @@ element-set-from-slot c = search needs
 add-more : tie.Need-add-more
 add-more c = search needs
 
+slots-sized : (s : tie.Start) → length (s .args .store .slots) ≡ 64
+slots-sized s = search (needs, length-mapped)
+
 returns : tie.Need-returns
 unfolding baseIn slipsIn heldIn
-returns c = let s = c .before .before in let l : length (s .args .store .slots) ≡ 64 = search (needs, length-mapped) in record { base = refl; slips = added-slips (s .args .store .slots) (s .args .store .count) (s .args .slot) (omega (arith, l, s .pre)) }
+returns c = let s = c .before .before in let l = slots-sized s in record { base = refl; slips = added-slips (s .args .store .slots) (s .args .store .count) (s .args .slot) (omega (arith, l, s .pre)) }
 
 pub with-slot-spec : {M : Type 1} → statement M
 with-slot-spec = tie.close (tie.spec cast-at mul-slot element-set-from-slot add-more returns)

@@ -1,5 +1,5 @@
-//! Pass, reason, check and what `cost` prints as document 01 and requests 2.3 and 2.4 define them, each closure and each item tried anew, over any test whether a
-//! walk fits.
+//! Pass, reason, check and what `cost` prints as document 01 and requests 2.3, 2.4 and 2.7 define them, each closure and each item tried anew, over any test whether
+//! a walk fits.
 
 use cases::{numbers, Sheet, Slip, FORBIDDEN, MANDATORY, OPEN};
 use reference::{check, cost, pass, reason, SLIP_BYTES, WORK_BYTES};
@@ -97,7 +97,7 @@ fn reasons_for(sheet: &Sheet, fits: Fits, passed: &[u8], item: usize) -> Option<
 /// before it meets the item and once behind.
 fn least_through(sheet: &Sheet, fits: Fits, closed: &[bool], item: usize) -> Option<u32> {
     let fits_within = |limit| fits(&sheet.with_limit(limit), closed, &[item]);
-    let (mut low, mut high) = (0, 2 * sheet.arcs.iter().map(|arc| arc[2]).sum::<u32>());
+    let (mut low, mut high) = (0, 2 * sheet.arcs.iter().map(|arc| arc[2] + sheet.service(arc[1])).sum::<u32>());
     if !fits_within(high) {
         return None;
     }
@@ -137,6 +137,8 @@ pub struct Counts {
     pub with_choice: usize,
     /// sheets with too many required items
     pub refused: usize,
+    /// sheets with service minutes whose slip is another than without them
+    pub by_service: usize,
 }
 
 /// The reference, held to the definitions.
@@ -160,6 +162,7 @@ impl Trial {
         match &answer {
             Ok(passed) => {
                 self.counts.verdicts[usize::from(passed[0])] += 1;
+                self.counts.by_service += usize::from(sheet.is_new_form() && *passed != self.without_services(sheet));
                 self.note(sheet, passed);
             }
             Err(_) => self.counts.refused += 1,
@@ -197,6 +200,11 @@ impl Trial {
         let answer = check(&sheet.bytes(), &mut self.work, &slip(first, goals, listed));
         assert_eq!(answer, u32::from(expected), "{sheet:?} {first} {goals:?} {listed:?}");
         expected
+    }
+
+    fn without_services(&mut self, sheet: &Sheet) -> Vec<u8> {
+        let number = pass(&sheet.with_services(&[]).bytes(), &mut self.work, &mut self.slip);
+        self.finished(number).expect("a good sheet without them too")
     }
 
     fn finished(&self, number: u32) -> Result<Vec<u8>, u32> {
