@@ -1,4 +1,5 @@
-// What is wrong with numbers that are to become a sheet: each is judged as the reader judges a sheet's, in the order of the sheet.
+// What is wrong with numbers that are to become a sheet: each is judged as the reader judges a sheet's, in the order of the sheet; and whether there is room
+// for it.
 ghost use mathlib.Core.Path.{_≡_};
 ghost use Prim.Native.Nat.{_≤_};
 ghost use lib.ListN.{length};
@@ -148,4 +149,11 @@ pub fn draft_fault(header: Header, arcs: &[u32], marks: &[u8], services: &[u32])
         return in_services;
     }
     required_fault(header, arcs, marks)
+}
+
+// Whether a slice has room for so many bytes.
+pub fn has_room(sheet: &[u8], size: usize) -> bool
+    ensures { λ r. ⌜ r ≡ leb size (length (now (sheet .entry))) ⌝ }
+{
+    size <= sheet.len()
 }

@@ -4,7 +4,6 @@ ghost use mathlib.Core.Bool.{true};
 ghost use mathlib.Core.List.{List};
 ghost use Prim.Native.Nat.{ℕ, _≤_};
 ghost use lib.ListN.{length};
-ghost use lib.Dec.{leb};
 ghost use Rattle.lists.specs.Lists.{Put};
 ghost use Rattle.varint.specs.Answer.{small};
 ghost use Rattle.varint.specs.Varint.{writeNumbers};
@@ -54,13 +53,6 @@ fn sheet_size(header: Header, arcs: &[u32], marks: &[u8], services: &[u32]) -> u
         return LEAD_BYTES + content + numbers::sizes(services);
     }
     content
-}
-
-// Whether a slice has room for so many bytes.
-fn has_room(sheet: &[u8], size: usize) -> bool
-    ensures { λ r. ⌜ r ≡ leb size (length (now (sheet .entry))) ⌝ }
-{
-    size <= sheet.len()
 }
 
 // Writes the content of a sheet without fault over the front of `out` and gives its length.
@@ -131,7 +123,7 @@ pub fn write_sheet(
             length: 0,
         };
     }
-    if !has_room(sheet, sheet_size(header, arcs, marks, services)) {
+    if !sheet_faults::has_room(sheet, sheet_size(header, arcs, marks, services)) {
         return Answer {
             number: 19,
             length: 0,
