@@ -18,12 +18,19 @@ fn main() {
 
 /// The archive that `rt` proves and writes. Cargo shows what `rt` prints only where it fails; `host/run-tests` makes the archive in sight.
 fn own_archive(repository: &Path) -> PathBuf {
-    for source in ["crates", "crates.txt"] {
-        println!("cargo:rerun-if-changed={}", repository.join(source).display());
+    println!("cargo:rerun-if-changed={}", repository.join("crates.txt").display());
+    for entry in std::fs::read_dir(repository.join("crates")).expect("the folder of the crates") {
+        let folder = entry.expect("a crate").path();
+        // what rt leaves in out/ counts for nothing
+        for part in ["src", "specs", "proofs"].map(|part| folder.join(part)) {
+            if part.is_dir() {
+                println!("cargo:rerun-if-changed={}", part.display());
+            }
+        }
     }
     let archive = "target/staticlib/libplanner.a";
-    let made = Command::new(repository.join("host/fresh")).args([archive, "rt", "staticlib", "planner"]).status();
-    assert!(made.expect("host/fresh can be run").success(), "the library is missing or older than crates/, and `rt staticlib planner` did not make it");
+    let made = Command::new(repository.join("host/fresh")).args([archive, "host/build", "planner"]).status();
+    assert!(made.expect("host/fresh can be run").success(), "the library is missing or older than crates/, and `host/build planner` did not make it");
     repository.join(archive)
 }
 

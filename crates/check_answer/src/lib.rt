@@ -1,10 +1,12 @@
 // What check answers: the refusal number, and yes or no.
+#![tactic(auto)]
+
 ghost use Rattle.std.specs.Prelude.{◌≡◌, []};
 ghost use Rattle.varint.specs.Varint.{got, refuse};
 ghost use Rattle.check_answer.specs.Answer.{check_answer_of};
 
 // What check gives: the refusal number, 0 where it finished, and yes or no.
-#[derive(Drop)]
+#[derive(Clone, Copy)]
 pub struct CheckAnswer {
     pub number: u32,
     pub yes: bool,

@@ -1,5 +1,7 @@
 // What a slip says of a sheet (document 01, 'The operations and what they refuse', check): whether its goals and reasons are well formed and of their
 // kinds on the sheet.
+#![tactic(auto)]
+
 ghost use Rattle.std.specs.Prelude.{◌≡◌, true, ◌&&◌, ◌+◌, ◌≤◌, ◌<◌, get_or, eqb};
 ghost use Rattle.lists.specs.Lists.{member, every};
 ghost use Rattle.walks.specs.Graph.{item_count};

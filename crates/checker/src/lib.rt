@@ -1,4 +1,6 @@
 // The operation check (document 01, 'The operations and what they refuse'): whether the list of a slip is a reason for its goals.
+#![tactic(auto)]
+
 ghost use Rattle.std.specs.Prelude.{◌≡◌, ◌||◌, [], ◌+◌, ◌≤◌, ltb, length};
 ghost use Rattle.varint.specs.Varint.{after};
 ghost use Rattle.sheet.specs.Slip.{read_slip};

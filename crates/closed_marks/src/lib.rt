@@ -1,4 +1,6 @@
 // Marks by which listed items are closed and all else is open.
+#![tactic(auto)]
+
 ghost use Rattle.std.specs.Prelude.{◌<◌};
 ghost use Rattle.lists.specs.Lists.{member};
 ghost use Rattle.reason_list.specs.Reasons.{but};

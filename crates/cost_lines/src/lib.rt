@@ -1,4 +1,6 @@
 // The lines of what a closure costs (document 02, request 2.4), for a sheet that was read and a list of closures.
+#![tactic(auto)]
+
 ghost use Rattle.std.specs.Prelude.{◌≡◌, [], ◌∷◌, ◌+◌, ◌≤◌, ◌<◌, length};
 ghost use Rattle.lists.specs.Lists.{Put};
 ghost use Rattle.walks.specs.Flat.{graph_of};

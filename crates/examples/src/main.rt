@@ -2,11 +2,13 @@
 // are lent longer than asked for and filled before the call, so that what is left as found can be seen. Then views of arcs, sheets that are written,
 // numbers with and without bytes behind them, and the store of request 2.6: slips that are put on it, and sheets that it is asked for. The lines
 // with the service minutes of request 2.7 stand among those of the pass, the writer and the store.
+#![tactic(auto)]
+
 ghost use Rattle.std.specs.Prelude.{◌≤◌, length};
 
-use libc::STDOUT_FILENO;
 use sheet::Header;
 use sheet_reader::SheetRead;
+use std::io;
 use store::{Putting, SLOTS, Store};
 use store_slot::{SLOT_ITEMS, Slot};
 use varint::Number;
@@ -64,367 +66,426 @@ fn is_work_all(work: &[u32], from: usize, to: usize, value: u32) -> bool {
 }
 
 // Prints a number in hex behind a space, in two digits where they are enough.
-fn print_hex(number: u64) {
-    io::write_all(STDOUT_FILENO, b" ");
-    io::print_hex(STDOUT_FILENO, number, 2);
+fn print_hex(rt: &impl Print, number: u64) -> io::Result<()> {
+    print!(rt; " {number:02x}")
 }
 
 // Prints a byte in hex behind a space.
-fn print_byte(byte: u8) {
-    print_hex(byte as u64);
+fn print_byte(rt: &impl Print, byte: u8) -> io::Result<()> {
+    print_hex(rt, byte as u64)
 }
 
 // Prints the first `count` bytes in hex.
-fn print_bytes(bytes: &[u8], count: usize) {
+fn print_bytes(rt: &impl Print, bytes: &[u8], count: usize) -> io::Result<()> {
     let mut i: usize = 0;
     while i < count {
         if i < bytes.len() {
-            print_byte(bytes[i]);
+            print_byte(rt, bytes[i])?;
         }
         i += 1;
     }
+    Ok(())
 }
 
 // Prints what a finished call left.
-fn show_finished(work: &[u32], slip: &[u8], length: usize) {
-    print_bytes(slip, length);
+fn show_finished(rt: &impl Print, work: &[u32], slip: &[u8], length: usize) -> io::Result<()> {
+    print_bytes(rt, slip, length)?;
     if is_kept(slip, length) && is_work_all(work, WORK_NUMBERS, WORK_LENT, FILLED_NUMBER) {
-        io::write_all(STDOUT_FILENO, b"; rest untouched");
+        rt.write_all(b"; rest untouched")?;
     }
     if is_work_all(work, 0, WORK_NUMBERS, 0) {
-        io::write_all(STDOUT_FILENO, b", work zero");
+        rt.write_all(b", work zero")?;
     }
+    Ok(())
 }
 
 // Prints that a call was refused, and why.
-fn show_refusal(number: u32) {
-    io::write_all(STDOUT_FILENO, b" refused ");
-    io::print_decimal(STDOUT_FILENO, number as u64);
+fn show_refusal(rt: &impl Print, number: u32) -> io::Result<()> {
+    rt.write_all(b" refused ")?;
+    print!(rt; "{number}")
 }
 
 // Prints what a refused call left.
-fn show_refused(work: &[u32], slip: &[u8], number: u32) {
-    show_refusal(number);
+fn show_refused(rt: &impl Print, work: &[u32], slip: &[u8], number: u32) -> io::Result<()> {
+    show_refusal(rt, number)?;
     if is_kept(slip, 0) && is_work_all(work, 0, WORK_LENT, FILLED_NUMBER) {
-        io::write_all(STDOUT_FILENO, b"; all untouched");
+        rt.write_all(b"; all untouched")?;
     }
+    Ok(())
 }
 
 // Prints what a call of pass or reason gives and leaves, and the line's end.
-fn show_answer(work: &[u32], slip: &[u8], number: u32, length: usize) {
+fn show_answer(
+    rt: &impl Print,
+    work: &[u32],
+    slip: &[u8],
+    number: u32,
+    length: usize,
+) -> io::Result<()> {
     if number == 0 {
-        show_finished(work, slip, length);
+        show_finished(rt, work, slip, length)?;
     } else {
-        show_refused(work, slip, number);
+        show_refused(rt, work, slip, number)?;
     }
-    io::write_all(STDOUT_FILENO, b"\n");
+    rt.write_all(b"\n")
 }
 
 // Prints a line: the name, and what the pass gives.
-fn show_pass(name: &[u8], sheet: &[u8]) {
-    io::write_all(STDOUT_FILENO, name);
-    io::write_all(STDOUT_FILENO, b":");
+fn show_pass(rt: &impl Print, name: &[u8], sheet: &[u8]) -> io::Result<()> {
+    rt.write_all(name)?;
+    rt.write_all(b":")?;
     let mut work = [FILLED_NUMBER; WORK_LENT];
     let mut slip = [FILLED_BYTE; SLIP_LENT];
     let answer = pass::pass(sheet, &mut work, &mut slip);
-    show_answer(&work, &slip, answer.number, answer.length);
+    show_answer(rt, &work, &slip, answer.number, answer.length)
 }
 
 // Prints a line: the name, and what reason gives for the item.
-fn show_reason(name: &[u8], sheet: &[u8], item: u32) {
-    io::write_all(STDOUT_FILENO, name);
-    io::write_all(STDOUT_FILENO, b":");
+fn show_reason(rt: &impl Print, name: &[u8], sheet: &[u8], item: u32) -> io::Result<()> {
+    rt.write_all(name)?;
+    rt.write_all(b":")?;
     let mut work = [FILLED_NUMBER; WORK_LENT];
     let mut slip = [FILLED_BYTE; SLIP_LENT];
     let answer = reason::reason(sheet, &mut work, &mut slip, item);
-    show_answer(&work, &slip, answer.number, answer.length);
+    show_answer(rt, &work, &slip, answer.number, answer.length)
 }
 
 // Prints what a check says: yes, no or its refusal.
-fn show_said(number: u32, yes: bool) {
+fn show_said(rt: &impl Print, number: u32, yes: bool) -> io::Result<()> {
     if number != 0 {
-        io::write_all(STDOUT_FILENO, b": refused ");
-        io::print_decimal(STDOUT_FILENO, number as u64);
+        rt.write_all(b": refused ")?;
+        print!(rt; "{number}")?;
     } else if yes {
-        io::write_all(STDOUT_FILENO, b": yes");
+        rt.write_all(b": yes")?;
     } else {
-        io::write_all(STDOUT_FILENO, b": no");
+        rt.write_all(b": no")?;
     }
+    Ok(())
 }
 
 // Prints what a check left.
-fn show_work_left(work: &[u32]) {
+fn show_work_left(rt: &impl Print, work: &[u32]) -> io::Result<()> {
     if is_work_all(work, 0, WORK_NUMBERS, 0)
         && is_work_all(work, WORK_NUMBERS, WORK_LENT, FILLED_NUMBER)
     {
-        io::write_all(STDOUT_FILENO, b"; rest untouched, work zero");
+        rt.write_all(b"; rest untouched, work zero")?;
     }
-    io::write_all(STDOUT_FILENO, b"\n");
+    rt.write_all(b"\n")
 }
 
 // Prints a line: the slip, and what check says to it on the sheet of the line before.
-fn show_check(sheet: &[u8], slip: &[u8]) {
-    io::write_all(STDOUT_FILENO, b"  check of");
-    print_bytes(slip, slip.len());
+fn show_check(rt: &impl Print, sheet: &[u8], slip: &[u8]) -> io::Result<()> {
+    rt.write_all(b"  check of")?;
+    print_bytes(rt, slip, slip.len())?;
     let mut work = [FILLED_NUMBER; WORK_LENT];
     let answer = checker::check(sheet, &mut work, slip);
-    show_said(answer.number, answer.yes);
-    show_work_left(&work);
+    show_said(rt, answer.number, answer.yes)?;
+    show_work_left(rt, &work)
 }
 
 // Prints what pass gives and what check says to its slip.
-fn show_checked(name: &[u8], sheet: &[u8], slip: &[u8]) {
-    show_pass(name, sheet);
-    show_check(sheet, slip);
+fn show_checked(rt: &impl Print, name: &[u8], sheet: &[u8], slip: &[u8]) -> io::Result<()> {
+    show_pass(rt, name, sheet)?;
+    show_check(rt, sheet, slip)
 }
 
 // Prints what reason gives and what check says to its slip.
-fn show_reason_checked(name: &[u8], sheet: &[u8], item: u32, slip: &[u8]) {
-    show_reason(name, sheet, item);
-    show_check(sheet, slip);
+fn show_reason_checked(
+    rt: &impl Print,
+    name: &[u8],
+    sheet: &[u8],
+    item: u32,
+    slip: &[u8],
+) -> io::Result<()> {
+    show_reason(rt, name, sheet, item)?;
+    show_check(rt, sheet, slip)
 }
 
 // Prints a line: the name, and the bytes of the arc's view. Where in the sheet they stand no program can see; the contract of `arc_view` says it.
-fn show_view(name: &[u8], sheet: &[u8], arc: u32) {
-    io::write_all(STDOUT_FILENO, name);
-    io::write_all(STDOUT_FILENO, b":");
+fn show_view(rt: &impl Print, name: &[u8], sheet: &[u8], arc: u32) -> io::Result<()> {
+    rt.write_all(name)?;
+    rt.write_all(b":")?;
     let part = sheet_view::arc_view(sheet, arc);
     if part.len() == 0 {
-        io::write_all(STDOUT_FILENO, b" empty");
+        rt.write_all(b" empty")?;
     }
-    print_bytes(part, part.len());
-    io::write_all(STDOUT_FILENO, b"\n");
+    print_bytes(rt, part, part.len())?;
+    rt.write_all(b"\n")
 }
 
 // A slip slice of 1,199 bytes.
-fn show_short_slip() {
-    io::write_all(STDOUT_FILENO, b"slip slice of 1,199:");
+fn show_short_slip(rt: &impl Print) -> io::Result<()> {
+    rt.write_all(b"slip slice of 1,199:")?;
     let mut work = [FILLED_NUMBER; WORK_LENT];
     let mut slip = [FILLED_BYTE; 1199];
     let sheet =
         b"\x04\x05\x00\x03\x08\x00\x01\x04\x01\x03\x04\x00\x02\x03\x02\x03\x09\x01\x02\x01\x00\x00\x00\x00\x00\x00\x00\x00\x00";
     let answer = pass::pass(sheet, &mut work, &mut slip);
-    show_refused(&work, &slip, answer.number);
-    io::write_all(STDOUT_FILENO, b"\n");
+    show_refused(rt, &work, &slip, answer.number)?;
+    rt.write_all(b"\n")
 }
 
 // The starred lines on which the round stands.
-fn starred_rounds() {
+fn starred_rounds(rt: &impl Print) -> io::Result<()> {
     show_pass(
+        rt,
         b"B",
         b"\x04\x05\x00\x03\x08\x00\x01\x04\x01\x03\x04\x00\x02\x03\x02\x03\x09\x01\x02\x01\x00\x00\x00\x00\x00\x00\x00\x00\x00",
-    );
+    )?;
     show_pass(
+        rt,
         b"K 12, item 4 shut",
         b"\x04\x05\x00\x03\x0C\x00\x01\x04\x01\x03\x04\x00\x02\x03\x02\x03\x09\x01\x02\x01\x00\x00\x00\x00\x02\x00\x00\x00\x00",
-    );
+    )?;
     show_pass(
+        rt,
         b"K 14, places 1 and 2 must",
         b"\x04\x05\x00\x03\x0E\x00\x01\x04\x01\x03\x04\x00\x02\x03\x02\x03\x09\x01\x02\x01\x00\x01\x01\x00\x00\x00\x00\x00\x00",
-    );
+    )
 }
 
 // The starred lines on which the round is refused and nothing is shut.
-fn starred_refusals() {
+fn starred_refusals(rt: &impl Print) -> io::Result<()> {
     show_checked(
+        rt,
         b"B with K 7",
         b"\x04\x05\x00\x03\x07\x00\x01\x04\x01\x03\x04\x00\x02\x03\x02\x03\x09\x01\x02\x01\x00\x00\x00\x00\x00\x00\x00\x00\x00",
         b"\x01\x00\x00",
-    );
+    )?;
     show_checked(
+        rt,
         b"B with place 2 must",
         b"\x04\x05\x00\x03\x08\x00\x01\x04\x01\x03\x04\x00\x02\x03\x02\x03\x09\x01\x02\x01\x00\x00\x01\x00\x00\x00\x00\x00\x00",
         b"\x02\x01\x02\x00",
-    );
+    )?;
     show_checked(
+        rt,
         b"K 13, places 1 and 2 must",
         b"\x04\x05\x00\x03\x0D\x00\x01\x04\x01\x03\x04\x00\x02\x03\x02\x03\x09\x01\x02\x01\x00\x01\x01\x00\x00\x00\x00\x00\x00",
         b"\x03\x02\x01\x02\x00",
-    );
+    )?;
     show_checked(
+        rt,
         b"K 13, item 8 must",
         b"\x04\x05\x00\x03\x0D\x00\x01\x04\x01\x03\x04\x00\x02\x03\x02\x03\x09\x01\x02\x01\x00\x00\x00\x00\x00\x00\x00\x00\x01",
         b"\x02\x01\x08\x00",
-    );
+    )
 }
 
 // The starred lines on which the round is refused and something is shut.
-fn starred_closures() {
+fn starred_closures(rt: &impl Print) -> io::Result<()> {
     show_checked(
+        rt,
         b"K 14, places 1 and 2 must, item 8 shut",
         b"\x04\x05\x00\x03\x0E\x00\x01\x04\x01\x03\x04\x00\x02\x03\x02\x03\x09\x01\x02\x01\x00\x01\x01\x00\x00\x00\x00\x00\x02",
         b"\x03\x02\x01\x02\x01\x08",
-    );
+    )?;
     show_checked(
+        rt,
         b"K 8, item 1 shut",
         b"\x04\x05\x00\x03\x08\x00\x01\x04\x01\x03\x04\x00\x02\x03\x02\x03\x09\x01\x02\x01\x00\x02\x00\x00\x00\x00\x00\x00\x00",
         b"\x01\x00\x01\x01",
-    );
+    )?;
     show_checked(
+        rt,
         b"Items 1 and 5 shut",
         b"\x04\x05\x00\x03\x08\x00\x01\x04\x01\x03\x04\x00\x02\x03\x02\x03\x09\x01\x02\x01\x00\x02\x00\x00\x00\x02\x00\x00\x00",
         b"\x01\x00\x01\x05",
-    );
+    )
 }
 
 // The starred lines of reason.
-fn starred_reasons() {
+fn starred_reasons(rt: &impl Print) -> io::Result<()> {
     show_reason_checked(
+        rt,
         b"B, reason for item 2",
         b"\x04\x05\x00\x03\x08\x00\x01\x04\x01\x03\x04\x00\x02\x03\x02\x03\x09\x01\x02\x01\x00\x00\x00\x00\x00\x00\x00\x00\x00",
         2,
         b"\x04\x01\x02\x00",
-    );
+    )?;
     show_reason_checked(
+        rt,
         b"K 12, item 4 shut, reason for item 1",
         b"\x04\x05\x00\x03\x0C\x00\x01\x04\x01\x03\x04\x00\x02\x03\x02\x03\x09\x01\x02\x01\x00\x00\x00\x00\x02\x00\x00\x00\x00",
         1,
         b"\x04\x01\x01\x01\x04",
-    );
+    )
 }
 
 // Sheets that cannot be read.
-fn bad_sheets() {
-    show_pass(b"Empty sheet", b"");
+fn bad_sheets(rt: &impl Print) -> io::Result<()> {
+    show_pass(rt, b"Empty sheet", b"")?;
     show_pass(
+        rt,
         b"B and one byte more",
         b"\x04\x05\x00\x03\x08\x00\x01\x04\x01\x03\x04\x00\x02\x03\x02\x03\x09\x01\x02\x01\x00\x00\x00\x00\x00\x00\x00\x00\x00\x00",
-    );
+    )?;
     show_pass(
+        rt,
         b"First number 80 00",
         b"\x80\x00\x05\x00\x03\x08\x00\x01\x04\x01\x03\x04\x00\x02\x03\x02\x03\x09\x01\x02\x01\x00\x00\x00\x00\x00\x00\x00\x00\x00",
-    );
+    )
 }
 
 // Sheets with a leading 1 that cannot be read: all service minutes are 0, one of them is missing, no place count follows; and a 1 that is badly written.
-fn bad_served() {
+fn bad_served(rt: &impl Print) -> io::Result<()> {
     show_pass(
+        rt,
         b"B with services 0 0 0 0",
         b"\x01\x04\x05\x00\x03\x08\x00\x01\x04\x01\x03\x04\x00\x02\x03\x02\x03\x09\x01\x02\x01\x00\x00\x00\x00\x00\x00\x00\x00\x00\x00\x00\x00\x00",
-    );
+    )?;
     show_pass(
+        rt,
         b"The same without its last byte",
         b"\x01\x04\x05\x00\x03\x08\x00\x01\x04\x01\x03\x04\x00\x02\x03\x02\x03\x09\x01\x02\x01\x00\x00\x00\x00\x00\x00\x00\x00\x00\x00\x00\x00",
-    );
+    )?;
     show_pass(
+        rt,
         b"The same and one byte more",
         b"\x01\x04\x05\x00\x03\x08\x00\x01\x04\x01\x03\x04\x00\x02\x03\x02\x03\x09\x01\x02\x01\x00\x00\x00\x00\x00\x00\x00\x00\x00\x00\x00\x00\x00\x00",
-    );
-    show_pass(b"Sheet 01", b"\x01");
-    show_pass(b"Sheet 01 01", b"\x01\x01");
-    show_pass(b"Sheet 81 00", b"\x81\x00");
-    show_pass(b"Sheet 01 84 00", b"\x01\x84\x00");
+    )?;
+    show_pass(rt, b"Sheet 01", b"\x01")?;
+    show_pass(rt, b"Sheet 01 01", b"\x01\x01")?;
+    show_pass(rt, b"Sheet 81 00", b"\x81\x00")?;
+    show_pass(rt, b"Sheet 01 84 00", b"\x01\x84\x00")
 }
 
 // Sheets with a number that is too large, or too many counted items.
-fn large_sheets() {
+fn large_sheets(rt: &impl Print) -> io::Result<()> {
     show_pass(
+        rt,
         b"Limit C1 84 3D",
         b"\x04\x05\x00\x03\xC1\x84\x3D\x00\x01\x04\x01\x03\x04\x00\x02\x03\x02\x03\x09\x01\x02\x01\x00\x00\x00\x00\x00\x00\x00\x00\x00",
-    );
+    )?;
     show_pass(
+        rt,
         b"Minutes 80 80 04",
         b"\x04\x05\x00\x03\x08\x00\x01\x80\x80\x04\x01\x03\x04\x00\x02\x03\x02\x03\x09\x01\x02\x01\x00\x00\x00\x00\x00\x00\x00\x00\x00",
-    );
+    )?;
     show_pass(
+        rt,
         b"Service D9 04, K 12",
         b"\x01\x04\x05\x00\x03\x0C\x00\x01\x04\x01\x03\x04\x00\x02\x03\x02\x03\x09\x01\x02\x01\x00\x00\x00\x00\x00\x00\x00\x00\x00\x00\xD9\x04\x00\x00",
-    );
+    )?;
     show_pass(
+        rt,
         b"Nine counted places",
         b"\x0B\x00\x00\x0A\x08\x00\x01\x01\x01\x01\x01\x01\x01\x01\x01\x00",
-    );
+    )
 }
 
 // Limits, minutes, service minutes and counted items at their bounds.
-fn bounds() {
+fn bounds(rt: &impl Print) -> io::Result<()> {
     show_pass(
+        rt,
         b"Limit C0 84 3D",
         b"\x04\x05\x00\x03\xC0\x84\x3D\x00\x01\x04\x01\x03\x04\x00\x02\x03\x02\x03\x09\x01\x02\x01\x00\x00\x00\x00\x00\x00\x00\x00\x00",
-    );
+    )?;
     show_checked(
+        rt,
         b"Minutes FF FF 03",
         b"\x04\x05\x00\x03\x08\x00\x01\xFF\xFF\x03\x01\x03\x04\x00\x02\x03\x02\x03\x09\x01\x02\x01\x00\x00\x00\x00\x00\x00\x00\x00\x00",
         b"\x01\x00\x00",
-    );
+    )?;
     show_pass(
+        rt,
         b"Service D8 04, K 12",
         b"\x01\x04\x05\x00\x03\x0C\x00\x01\x04\x01\x03\x04\x00\x02\x03\x02\x03\x09\x01\x02\x01\x00\x00\x00\x00\x00\x00\x00\x00\x00\x00\xD8\x04\x00\x00",
-    );
+    )?;
     show_checked(
+        rt,
         b"Eight counted places",
         b"\x0B\x00\x00\x0A\x08\x00\x01\x01\x01\x01\x01\x01\x01\x01\x00\x00",
         b"\x01\x00\x00",
-    );
+    )
 }
 
 // Must legs on B: the line that request 2.3 adds to the starred ones; the same with an end of the leg must, which is not counted; two that one walk drives.
-fn must_legs() {
+fn must_legs(rt: &impl Print) -> io::Result<()> {
     let two =
         b"\x04\x05\x00\x03\x0E\x00\x01\x04\x01\x03\x04\x00\x02\x03\x02\x03\x09\x01\x02\x01\x00\x01\x00\x00\x00\x00\x01\x00\x00";
-    show_checked(b"K 14, items 1 and 6 must", two, b"\x03\x02\x01\x06\x00");
-    show_check(two, b"\x03\x02\x01\x02\x00");
-    show_check(two, b"\x03\x02\x01\x04\x00");
+    show_checked(
+        rt,
+        b"K 14, items 1 and 6 must",
+        two,
+        b"\x03\x02\x01\x06\x00",
+    )?;
+    show_check(rt, two, b"\x03\x02\x01\x02\x00")?;
+    show_check(rt, two, b"\x03\x02\x01\x04\x00")?;
     let end =
         b"\x04\x05\x00\x03\x0E\x00\x01\x04\x01\x03\x04\x00\x02\x03\x02\x03\x09\x01\x02\x01\x00\x01\x01\x00\x00\x00\x01\x00\x00";
-    show_checked(b"K 14, items 1, 2 and 6 must", end, b"\x03\x02\x01\x06\x00");
-    show_check(end, b"\x03\x02\x01\x02\x00");
+    show_checked(
+        rt,
+        b"K 14, items 1, 2 and 6 must",
+        end,
+        b"\x03\x02\x01\x06\x00",
+    )?;
+    show_check(rt, end, b"\x03\x02\x01\x02\x00")?;
     show_pass(
+        rt,
         b"K 14, items 4 and 8 must",
         b"\x04\x05\x00\x03\x0E\x00\x01\x04\x01\x03\x04\x00\x02\x03\x02\x03\x09\x01\x02\x01\x00\x00\x00\x00\x01\x00\x00\x00\x01",
-    );
+    )
 }
 
 // Must legs from start to finish: twins without and with a way back, and nine of them.
-fn twin_legs() {
+fn twin_legs(rt: &impl Print) -> io::Result<()> {
     show_checked(
+        rt,
         b"Twin must legs, no way back",
         b"\x02\x02\x00\x01\x09\x00\x01\x01\x00\x01\x01\x00\x00\x01\x01",
         b"\x03\x02\x02\x03\x00",
-    );
+    )?;
     show_pass(
+        rt,
         b"Twin must legs, a way back",
         b"\x02\x03\x00\x01\x09\x00\x01\x01\x00\x01\x01\x01\x00\x01\x00\x00\x01\x01\x00",
-    );
+    )?;
     show_pass(
+        rt,
         b"Nine must legs",
         b"\x02\x09\x00\x01\x63\x00\x01\x01\x00\x01\x01\x00\x01\x01\x00\x01\x01\x00\x01\x01\x00\x01\x01\x00\x01\x01\x00\x01\x01\x00\x01\x01\x00\x00\x01\x01\x01\x01\x01\x01\x01\x01\x01",
-    );
+    )
 }
 
 // Service minutes on B, at place 1: the round stands from K 10 on. The view of a leg has its minutes as they are written.
-fn served_rounds() {
+fn served_rounds(rt: &impl Print) -> io::Result<()> {
     show_checked(
+        rt,
         b"B with service 2 at place 1",
         b"\x01\x04\x05\x00\x03\x08\x00\x01\x04\x01\x03\x04\x00\x02\x03\x02\x03\x09\x01\x02\x01\x00\x00\x00\x00\x00\x00\x00\x00\x00\x00\x02\x00\x00",
         b"\x01\x00\x00",
-    );
+    )?;
     let longer =
         b"\x01\x04\x05\x00\x03\x0A\x00\x01\x04\x01\x03\x04\x00\x02\x03\x02\x03\x09\x01\x02\x01\x00\x00\x00\x00\x00\x00\x00\x00\x00\x00\x02\x00\x00";
-    show_pass(b"The same, K 10", longer);
-    show_view(b"Leg 0 of it", longer, 0);
+    show_pass(rt, b"The same, K 10", longer)?;
+    show_view(rt, b"Leg 0 of it", longer, 0)
 }
 
 // Service minutes for each touch but a walk's first: at the start, to which the walk comes again, and at a place that it passes twice.
-fn served_touches() {
+fn served_touches(rt: &impl Print) -> io::Result<()> {
     show_checked(
+        rt,
         b"Service 2 at the start, place 2 must, K 3",
         b"\x01\x03\x03\x00\x01\x03\x00\x01\x00\x00\x02\x01\x02\x00\x01\x00\x00\x01\x00\x00\x00\x02\x00\x00",
         b"\x02\x01\x02\x00",
-    );
+    )?;
     show_pass(
+        rt,
         b"The same, K 4",
         b"\x01\x03\x03\x00\x01\x04\x00\x01\x00\x00\x02\x01\x02\x00\x01\x00\x00\x01\x00\x00\x00\x02\x00\x00",
-    );
+    )?;
     show_pass(
+        rt,
         b"Service 2 at place 1, passed twice, places 1 and 2 must, K 8",
         b"\x01\x04\x04\x00\x03\x08\x00\x01\x01\x01\x02\x01\x02\x01\x01\x01\x03\x01\x00\x01\x01\x00\x00\x00\x00\x00\x00\x02\x00\x00",
-    );
+    )?;
     show_checked(
+        rt,
         b"The same, K 7",
         b"\x01\x04\x04\x00\x03\x07\x00\x01\x01\x01\x02\x01\x02\x01\x01\x01\x03\x01\x00\x01\x01\x00\x00\x00\x00\x00\x00\x02\x00\x00",
         b"\x02\x01\x02\x00",
-    );
+    )
 }
 
 // Where a leg of the ring starts: at 1, 2 and so on to 63, and then eight times at 0.
@@ -459,7 +520,7 @@ fn ring_marks() -> [u8; RING_ITEMS] {
 }
 
 // Prints a line: the name, and what the pass gives for the ring, from place 1 to place 0.
-fn show_ring(name: &[u8], limit: u32, minutes: u32) {
+fn show_ring(rt: &impl Print, name: &[u8], limit: u32, minutes: u32) -> io::Result<()> {
     let header = Header {
         nodes: NODES,
         arcs: RING_LEGS,
@@ -474,91 +535,100 @@ fn show_ring(name: &[u8], limit: u32, minutes: u32) {
     let written = sheet_writer::write_sheet(header, &legs, &marks, &services, &mut sheet);
     let length = written.length;
     if length <= RING_BYTES {
-        show_pass(name, &sheet[..length]);
+        show_pass(rt, name, &sheet[..length])?;
     }
+    Ok(())
 }
 
 // The longest of all shortest walks (request 2.5): nine times along the ring and once over each of its eight must legs, 575 legs.
-fn longest_walks() {
-    show_ring(b"Ring of 64 places, eight must legs, K 575", 575, 1);
-    show_ring(b"The same, K 574", 574, 1);
+fn longest_walks(rt: &impl Print) -> io::Result<()> {
+    show_ring(rt, b"Ring of 64 places, eight must legs, K 575", 575, 1)?;
+    show_ring(rt, b"The same, K 574", 574, 1)?;
     show_ring(
+        rt,
         b"The same, 65,535 minutes a leg, K 1,000,000",
         1000000,
         65535,
-    );
+    )
 }
 
 // Views of arcs: with minutes of three groups, the next one, two with the same bytes.
-fn views() {
+fn views(rt: &impl Print) -> io::Result<()> {
     show_view(
+        rt,
         b"Leg 1, minutes FF FF 03",
         b"\x04\x05\x00\x03\x08\x00\x01\x04\x01\x03\xFF\xFF\x03\x00\x02\x03\x02\x03\x09\x01\x02\x01\x00\x00\x00\x00\x00\x00\x00\x00\x00",
         1,
-    );
+    )?;
     show_view(
+        rt,
         b"Leg 2 behind it",
         b"\x04\x05\x00\x03\x08\x00\x01\x04\x01\x03\xFF\xFF\x03\x00\x02\x03\x02\x03\x09\x01\x02\x01\x00\x00\x00\x00\x00\x00\x00\x00\x00",
         2,
-    );
+    )?;
     show_view(
+        rt,
         b"Leg 0 of two alike",
         b"\x02\x02\x00\x01\x08\x00\x01\x04\x00\x01\x04\x00\x00\x00\x00",
         0,
-    );
+    )?;
     show_view(
+        rt,
         b"Leg 1 of two alike",
         b"\x02\x02\x00\x01\x08\x00\x01\x04\x00\x01\x04\x00\x00\x00\x00",
         1,
-    );
+    )
 }
 
 // Views that are empty: no such arc, and a sheet that is refused.
-fn empty_views() {
+fn empty_views(rt: &impl Print) -> io::Result<()> {
     show_view(
+        rt,
         b"Leg 5 of B",
         b"\x04\x05\x00\x03\x08\x00\x01\x04\x01\x03\x04\x00\x02\x03\x02\x03\x09\x01\x02\x01\x00\x00\x00\x00\x00\x00\x00\x00\x00",
         5,
-    );
+    )?;
     show_view(
+        rt,
         b"Leg 0 of B and one byte more",
         b"\x04\x05\x00\x03\x08\x00\x01\x04\x01\x03\x04\x00\x02\x03\x02\x03\x09\x01\x02\x01\x00\x00\x00\x00\x00\x00\x00\x00\x00\x00",
         0,
-    );
+    )
 }
 
 // Prints what a call of the writer gives and leaves, and the line's end.
-fn show_written(sheet: &[u8], answer: Answer) {
+fn show_written(rt: &impl Print, sheet: &[u8], answer: Answer) -> io::Result<()> {
     if answer.number == 0 {
-        print_bytes(sheet, answer.length);
+        print_bytes(rt, sheet, answer.length)?;
         if is_kept(sheet, answer.length) {
-            io::write_all(STDOUT_FILENO, b"; rest untouched");
+            rt.write_all(b"; rest untouched")?;
         }
     } else {
-        show_refusal(answer.number);
+        show_refusal(rt, answer.number)?;
         if is_kept(sheet, 0) {
-            io::write_all(STDOUT_FILENO, b"; all untouched");
+            rt.write_all(b"; all untouched")?;
         }
     }
-    io::write_all(STDOUT_FILENO, b"\n");
+    rt.write_all(b"\n")
 }
 
 // Prints a line: the name, and what the writer gives that is lent a slice of so many bytes. More bytes stand behind the slice.
 fn show_write(
+    rt: &impl Print,
     name: &[u8],
     header: Header,
     legs: &[u32],
     marks: &[u8],
     services: &[u32],
     size: usize,
-)
+) -> io::Result<()>
     requires { size ≤ 40 }
 {
-    io::write_all(STDOUT_FILENO, name);
-    io::write_all(STDOUT_FILENO, b":");
+    rt.write_all(name)?;
+    rt.write_all(b":")?;
     let mut sheet = [FILLED_BYTE; SHEET_LENT];
     let answer = sheet_writer::write_sheet(header, legs, marks, services, &mut sheet[..size]);
-    show_written(&sheet, answer);
+    show_written(rt, &sheet, answer)
 }
 
 // The minutes of a leg: its weight less the service minutes of its head. A weight that is less than these stays.
@@ -584,7 +654,7 @@ fn give_back(legs: &mut [u32], services: &[u32]) {
 }
 
 // Prints a line: the name, and what the reader stores of a sheet, written again into a slice of the sheet's length.
-fn show_again(name: &[u8], sheet: &[u8])
+fn show_again(rt: &impl Print, name: &[u8], sheet: &[u8]) -> io::Result<()>
     requires { length sheet.now ≤ 40 }
 {
     let mut legs = [0u32; ARC_NUMBERS];
@@ -592,20 +662,21 @@ fn show_again(name: &[u8], sheet: &[u8])
     let mut services = [0u32; NODES];
     let header = match sheet_reader::read_page(sheet, &mut legs, &mut marks, &mut services) {
         SheetRead::Got(header) => header,
-        SheetRead::Refused(_) => return,
+        SheetRead::Refused(_) => return Ok(()),
     };
     let numbers = 3 * header.arcs;
     let items = header.nodes + header.arcs;
     let nodes = header.nodes;
     give_back(&mut legs, &services);
     show_write(
+        rt,
         name,
         header,
         &legs[..numbers],
         &marks[..items],
         &services[..nodes],
         sheet.len(),
-    );
+    )
 }
 
 // The five numbers of B with another limit.
@@ -625,30 +696,33 @@ fn legs_of_b() -> [u32; 15] {
 }
 
 // Sheets made of numbers, in slices that are just long enough.
-fn written_sheets() {
+fn written_sheets(rt: &impl Print) -> io::Result<()> {
     show_again(
+        rt,
         b"B, read and written again",
         b"\x04\x05\x00\x03\x08\x00\x01\x04\x01\x03\x04\x00\x02\x03\x02\x03\x09\x01\x02\x01\x00\x00\x00\x00\x00\x00\x00\x00\x00",
-    );
+    )?;
     let legs = legs_of_b();
     let marks = [0u8; 9];
     let services = [0u32; 4];
     show_write(
+        rt,
         b"B written, slice of 29",
         header_of_b(8),
         &legs,
         &marks,
         &services,
         29,
-    );
+    )?;
     show_write(
+        rt,
         b"K 1,000,000, slice of 31",
         header_of_b(1000000),
         &legs,
         &marks,
         &services,
         31,
-    );
+    )?;
     let two = Header {
         nodes: 2,
         arcs: 0,
@@ -657,77 +731,84 @@ fn written_sheets() {
         limit: 0,
     };
     show_write(
+        rt,
         b"Two places, slice of 7",
         two,
         &legs[..0],
         b"\x00\x02",
         &services[..2],
         7,
-    );
+    )
 }
 
 // Slices that are too short, and lists of another length than the header says.
-fn unwritten_sheets() {
+fn unwritten_sheets(rt: &impl Print) -> io::Result<()> {
     let legs = legs_of_b();
     let marks = [0u8; 9];
     let services = [0u32; 4];
     show_write(
+        rt,
         b"B written, slice of 28",
         header_of_b(8),
         &legs,
         &marks,
         &services,
         28,
-    );
+    )?;
     show_write(
+        rt,
         b"K 1,000,000, slice of 29",
         header_of_b(1000000),
         &legs,
         &marks,
         &services,
         29,
-    );
+    )?;
     show_write(
+        rt,
         b"K 1,000,001, no legs",
         header_of_b(1000001),
         &legs[..0],
         &marks,
         &services,
         29,
-    );
+    )?;
     let no_tail = [4u32, 1, 4, 1, 3, 4, 0, 2, 3, 2, 3, 9, 1, 2, 1];
     show_write(
+        rt,
         b"Leg 0 from 4, eight marks",
         header_of_b(8),
         &no_tail,
         &marks[..8],
         &services,
         29,
-    );
+    )
 }
 
 // Legs that are judged one by one, and too many counted items.
-fn unwritten_legs() {
+fn unwritten_legs(rt: &impl Print) -> io::Result<()> {
     let marks = [0u8; 9];
     let services = [0u32; 11];
     let slow_first = [0u32, 1, 65536, 9, 3, 4, 0, 2, 3, 2, 3, 9, 1, 2, 1];
     show_write(
+        rt,
         b"Leg 0 of 65,536 minutes, leg 1 from 9",
         header_of_b(8),
         &slow_first,
         &marks,
         &services[..4],
         29,
-    );
+    )?;
     let no_tail = [9u32, 1, 65536, 1, 3, 4, 0, 2, 3, 2, 3, 9, 1, 2, 1];
     show_write(
+        rt,
         b"Leg 0 from 9, of 65,536 minutes",
         header_of_b(8),
         &no_tail,
         &marks,
         &services[..4],
         29,
-    );
+    )?;
     let row = Header {
         nodes: 11,
         arcs: 10,
@@ -743,91 +824,94 @@ fn unwritten_legs() {
         0u8, 1, 1, 1, 1, 1, 1, 1, 1, 1, 0, 0, 0, 0, 0, 0, 0, 0, 0, 0, 0,
     ];
     show_write(
+        rt,
         b"Places 1 to 9 must, empty slice",
         row,
         &in_a_row,
         &must,
         &services,
         0,
-    );
+    )
 }
 
 // Prints a line: the name, and what the writer gives that is lent the numbers of B, services and a slice of so many bytes.
-fn show_services(name: &[u8], services: &[u32], size: usize)
+fn show_services(rt: &impl Print, name: &[u8], services: &[u32], size: usize) -> io::Result<()>
     requires { size ≤ 40 }
 {
     let legs = legs_of_b();
     let marks = [0u8; 9];
-    show_write(name, header_of_b(8), &legs, &marks, services, size);
+    show_write(rt, name, header_of_b(8), &legs, &marks, services, size)
 }
 
 // Service minutes: the form with them where one is not 0, and else the form without them; another count of them, and too many minutes.
-fn written_services() {
+fn written_services(rt: &impl Print) -> io::Result<()> {
     show_again(
+        rt,
         b"Service 2 at place 1, read and written again",
         b"\x01\x04\x05\x00\x03\x08\x00\x01\x04\x01\x03\x04\x00\x02\x03\x02\x03\x09\x01\x02\x01\x00\x00\x00\x00\x00\x00\x00\x00\x00\x00\x02\x00\x00",
-    );
+    )?;
     let served = [0u32, 2, 0, 0];
     let none = [0u32; 4];
     let long = [0u32, 601, 0, 0];
-    show_services(b"Services 0 2 0 0, slice of 34", &served, 34);
-    show_services(b"Services 0 2 0 0, slice of 33", &served, 33);
-    show_services(b"Services 0 0 0 0, slice of 34", &none, 34);
-    show_services(b"Three services", &none[..3], 34);
-    show_services(b"Service of 601", &long, 34);
+    show_services(rt, b"Services 0 2 0 0, slice of 34", &served, 34)?;
+    show_services(rt, b"Services 0 2 0 0, slice of 33", &served, 33)?;
+    show_services(rt, b"Services 0 0 0 0, slice of 34", &none, 34)?;
+    show_services(rt, b"Three services", &none[..3], 34)?;
+    show_services(rt, b"Service of 601", &long, 34)
 }
 
 // Prints what the reader gives for the number at the front of the bytes.
-fn show_read(number: Number) {
+fn show_read(rt: &impl Print, number: Number) -> io::Result<()> {
     match number {
         Number::Got(value, end) => {
-            io::print_decimal(STDOUT_FILENO, value as u64);
-            io::write_all(STDOUT_FILENO, b", ");
-            io::print_decimal(STDOUT_FILENO, end as u64);
-            io::write_all(STDOUT_FILENO, b" bytes");
+            print!(rt; "{value}")?;
+            rt.write_all(b", ")?;
+            print!(rt; "{end}")?;
+            rt.write_all(b" bytes")?;
         }
         Number::Ends => {
-            io::write_all(STDOUT_FILENO, b"refused 3");
+            rt.write_all(b"refused 3")?;
         }
         Number::Overlong => {
-            io::write_all(STDOUT_FILENO, b"refused 4");
+            rt.write_all(b"refused 4")?;
         }
     }
+    Ok(())
 }
 
 // Prints a line: the bytes, and the value of the number at their front with the count of bytes that it took, or the refusal.
-fn show_number(bytes: &[u8]) {
-    io::write_all(STDOUT_FILENO, b"Number");
-    print_bytes(bytes, bytes.len());
-    io::write_all(STDOUT_FILENO, b": ");
-    show_read(varint::number_at(bytes, 0));
-    io::write_all(STDOUT_FILENO, b"\n");
+fn show_number(rt: &impl Print, bytes: &[u8]) -> io::Result<()> {
+    rt.write_all(b"Number")?;
+    print_bytes(rt, bytes, bytes.len())?;
+    rt.write_all(b": ")?;
+    show_read(rt, varint::number_at(bytes, 0))?;
+    rt.write_all(b"\n")
 }
 
 // Numbers that end: more bytes behind them alter nothing.
-fn numbers() {
-    show_number(b"\x80\x01");
-    show_number(b"\x80\x01\xFF\x00\x7F");
-    show_number(b"\xFF\xFF\xFF\x7F");
-    show_number(b"\xFF\xFF\xFF\x7F\xFF\x00\x7F");
+fn numbers(rt: &impl Print) -> io::Result<()> {
+    show_number(rt, b"\x80\x01")?;
+    show_number(rt, b"\x80\x01\xFF\x00\x7F")?;
+    show_number(rt, b"\xFF\xFF\xFF\x7F")?;
+    show_number(rt, b"\xFF\xFF\xFF\x7F\xFF\x00\x7F")
 }
 
 // Numbers that are badly written: more bytes behind them alter nothing.
-fn overlong_numbers() {
-    show_number(b"\x80\x00");
-    show_number(b"\x80\x00\xFF\x00\x7F");
-    show_number(b"\x81\x00\x80\x00");
-    show_number(b"\x81\x00\x80\x00\xFF\x00\x7F");
-    show_number(b"\x80\x80\x80\x80");
-    show_number(b"\x80\x80\x80\x80\xFF\x00\x7F");
+fn overlong_numbers(rt: &impl Print) -> io::Result<()> {
+    show_number(rt, b"\x80\x00")?;
+    show_number(rt, b"\x80\x00\xFF\x00\x7F")?;
+    show_number(rt, b"\x81\x00\x80\x00")?;
+    show_number(rt, b"\x81\x00\x80\x00\xFF\x00\x7F")?;
+    show_number(rt, b"\x80\x80\x80\x80")?;
+    show_number(rt, b"\x80\x80\x80\x80\xFF\x00\x7F")
 }
 
 // Numbers of which the bytes end first: more bytes are asked for, and decide.
-fn unended_numbers() {
-    show_number(b"\x80");
-    show_number(b"\x80\xFF\x00\x7F");
-    show_number(b"\x80\x80\x80");
-    show_number(b"\x80\x80\x80\xFF\x00\x7F");
+fn unended_numbers(rt: &impl Print) -> io::Result<()> {
+    show_number(rt, b"\x80")?;
+    show_number(rt, b"\x80\xFF\x00\x7F")?;
+    show_number(rt, b"\x80\x80\x80")?;
+    show_number(rt, b"\x80\x80\x80\xFF\x00\x7F")
 }
 
 // Whether two slots agree in every number, those past their lists included.
@@ -879,103 +963,118 @@ fn is_same_store(one: Store, other: Store) -> bool {
 }
 
 // Prints the items from `from` up to `to`.
-fn print_items(items: [usize; SLOT_ITEMS], from: usize, to: usize) {
+fn print_items(
+    rt: &impl Print,
+    items: [usize; SLOT_ITEMS],
+    from: usize,
+    to: usize,
+) -> io::Result<()> {
     let mut i = from;
     while i < to {
         if i < SLOT_ITEMS {
-            print_hex(items[i] as u64);
+            print_hex(rt, items[i] as u64)?;
         }
         i += 1;
     }
+    Ok(())
 }
 
 // Prints the slip that a slot holds, its numbers in a slip's order, and the limit.
-fn show_slot(slot: Slot) {
+fn show_slot(rt: &impl Print, slot: Slot) -> io::Result<()> {
     let all = store_slot::lists_of(slot);
     let goals = all.goals_end;
     let end = all.reasons_end;
     let items = all.items;
-    print_hex(slot.first as u64);
-    print_hex(slot.goals as u64);
-    print_items(items, 0, goals);
-    print_hex(slot.reasons as u64);
-    print_items(items, goals, end);
-    io::write_all(STDOUT_FILENO, b" with K ");
-    io::print_decimal(STDOUT_FILENO, slot.limit as u64);
+    print_hex(rt, slot.first as u64)?;
+    print_hex(rt, slot.goals as u64)?;
+    print_items(rt, items, 0, goals)?;
+    print_hex(rt, slot.reasons as u64)?;
+    print_items(rt, items, goals, end)?;
+    rt.write_all(b" with K ")?;
+    print!(rt; "{}", slot.limit)
 }
 
 // Prints the slips that a store holds, earliest put first.
-fn show_held(store: Store) {
-    io::write_all(STDOUT_FILENO, b"; holds");
+fn show_held(rt: &impl Print, store: Store) -> io::Result<()> {
+    rt.write_all(b"; holds")?;
     if store.count == 0 {
-        io::write_all(STDOUT_FILENO, b" nothing");
+        rt.write_all(b" nothing")?;
     }
     let count = store_slot::at_most(store.count, SLOTS);
     let mut i: usize = 0;
     while i < count {
         if i > 0 {
-            io::write_all(STDOUT_FILENO, b", then");
+            rt.write_all(b", then")?;
         }
         let slot = store.slots[i];
-        show_slot(slot);
+        show_slot(rt, slot)?;
         i += 1;
     }
+    Ok(())
 }
 
 // Prints a line's start: the lines that follow one another on the same slips are set in.
-fn show_start(store: Store) {
+fn show_start(rt: &impl Print, store: Store) -> io::Result<()> {
     if store.count == 0 {
-        io::write_all(STDOUT_FILENO, b"Empty store, ");
+        rt.write_all(b"Empty store, ")?;
     } else {
-        io::write_all(STDOUT_FILENO, b"  ");
+        rt.write_all(b"  ")?;
     }
+    Ok(())
 }
 
 // Prints what put gives, what the store then holds, and whether it is in every number as it was before.
-fn show_putting(before: Store, answer: Putting) {
+fn show_putting(rt: &impl Print, before: Store, answer: Putting) -> io::Result<()> {
     let after = answer.store;
     if answer.number == 0 {
-        io::write_all(STDOUT_FILENO, b" 0");
+        rt.write_all(b" 0")?;
     } else {
-        show_refusal(answer.number);
+        show_refusal(rt, answer.number)?;
     }
-    show_held(after);
+    show_held(rt, after)?;
     if is_same_store(before, after) {
-        io::write_all(STDOUT_FILENO, b"; store unchanged");
+        rt.write_all(b"; store unchanged")?;
     }
+    Ok(())
 }
 
 // Prints a line: the sheet's name, the slip, and what put gives and leaves. Returns the store for the next call.
-fn show_put(store: Store, name: &[u8], sheet: &[u8], slip: &[u8]) -> Store {
-    show_start(store);
-    io::write_all(STDOUT_FILENO, b"put ");
-    io::write_all(STDOUT_FILENO, name);
-    io::write_all(STDOUT_FILENO, b",");
-    print_bytes(slip, slip.len());
-    io::write_all(STDOUT_FILENO, b":");
+fn show_put(
+    rt: &impl Print,
+    store: Store,
+    name: &[u8],
+    sheet: &[u8],
+    slip: &[u8],
+) -> io::Result<Store> {
+    show_start(rt, store)?;
+    rt.write_all(b"put ")?;
+    rt.write_all(name)?;
+    rt.write_all(b",")?;
+    print_bytes(rt, slip, slip.len())?;
+    rt.write_all(b":")?;
     let mut work = [FILLED_NUMBER; WORK_LENT];
     let answer = store::put(store, sheet, &mut work, slip);
-    show_putting(store, answer);
-    show_work_left(&work);
-    answer.store
+    show_putting(rt, store, answer)?;
+    show_work_left(rt, &work)?;
+    Ok(answer.store)
 }
 
 // Prints a line: the sheet's name, and the slip that ask finds.
-fn show_ask(store: Store, name: &[u8], sheet: &[u8]) {
-    show_start(store);
-    io::write_all(STDOUT_FILENO, b"ask ");
-    io::write_all(STDOUT_FILENO, name);
-    io::write_all(STDOUT_FILENO, b":");
+fn show_ask(rt: &impl Print, store: Store, name: &[u8], sheet: &[u8]) -> io::Result<()> {
+    show_start(rt, store)?;
+    rt.write_all(b"ask ")?;
+    rt.write_all(name)?;
+    rt.write_all(b":")?;
     let answer = store::ask(store, sheet);
     if answer.number != 0 {
-        show_refusal(answer.number);
+        show_refusal(rt, answer.number)?;
     } else if answer.found {
         let slot = answer.slot;
-        show_slot(slot);
+        show_slot(rt, slot)?;
     } else {
-        io::write_all(STDOUT_FILENO, b" none");
+        rt.write_all(b" none")?;
     }
-    io::write_all(STDOUT_FILENO, b"\n");
+    rt.write_all(b"\n")
 }
 
 // Sheet B with another limit and other marks.
@@ -993,142 +1092,154 @@ fn sheet_of_two() -> [u8; 11] {
 }
 
 // Puts a slip of the sheet with K 8 and item 1 shut.
-fn put_one_shut(store: Store, slip: &[u8]) -> Store {
+fn put_one_shut(rt: &impl Print, store: Store, slip: &[u8]) -> io::Result<Store> {
     let sheet = sheet_of_b(8, b"\x00\x02\x00\x00\x00\x00\x00\x00\x00");
-    show_put(store, b"K 8, item 1 shut", &sheet, slip)
+    show_put(rt, store, b"K 8, item 1 shut", &sheet, slip)
 }
 
 // Puts a slip of the sheet with K 8 and items 1 and 5 shut.
-fn put_two_shut(store: Store, slip: &[u8]) -> Store {
+fn put_two_shut(rt: &impl Print, store: Store, slip: &[u8]) -> io::Result<Store> {
     let sheet = sheet_of_b(8, b"\x00\x02\x00\x00\x00\x02\x00\x00\x00");
-    show_put(store, b"K 8, items 1 and 5 shut", &sheet, slip)
+    show_put(rt, store, b"K 8, items 1 and 5 shut", &sheet, slip)
 }
 
 // Puts a slip of the sheet on another map.
-fn put_two(store: Store, slip: &[u8]) -> Store {
+fn put_two(rt: &impl Print, store: Store, slip: &[u8]) -> io::Result<Store> {
     let sheet = sheet_of_two();
-    show_put(store, b"K 0, two places, item 2 must", &sheet, slip)
+    show_put(rt, store, b"K 0, two places, item 2 must", &sheet, slip)
 }
 
 // Asks with B, another limit and other marks.
-fn ask_b(store: Store, name: &[u8], limit: u32, marks: &[u8; 9]) {
+fn ask_b(
+    rt: &impl Print,
+    store: Store,
+    name: &[u8],
+    limit: u32,
+    marks: &[u8; 9],
+) -> io::Result<()> {
     let sheet = sheet_of_b(limit, marks);
-    show_ask(store, name, &sheet);
+    show_ask(rt, store, name, &sheet)
 }
 
 // A store that holds nothing still reads the sheet that it is asked for.
-fn ask_empty() {
+fn ask_empty(rt: &impl Print) -> io::Result<()> {
     let store = store::empty();
-    show_ask(store, b"an empty sheet", b"");
-    ask_b(store, b"B", 8, b"\x00\x00\x00\x00\x00\x00\x00\x00\x00");
+    show_ask(rt, store, b"an empty sheet", b"")?;
+    ask_b(rt, store, b"B", 8, b"\x00\x00\x00\x00\x00\x00\x00\x00\x00")
 }
 
 // A slip answers for its own sheet, for a lower limit and where more is shut; not where its reason is open or must, nor for a greater limit.
-fn ask_one() {
-    let store = put_one_shut(store::empty(), b"\x01\x00\x01\x01");
+fn ask_one(rt: &impl Print) -> io::Result<()> {
+    let store = put_one_shut(rt, store::empty(), b"\x01\x00\x01\x01")?;
     let shut = b"\x00\x02\x00\x00\x00\x00\x00\x00\x00";
     let more = b"\x00\x02\x00\x00\x02\x00\x00\x00\x00";
     let open = b"\x00\x00\x00\x00\x00\x00\x00\x00\x00";
     let must = b"\x00\x01\x00\x00\x00\x00\x00\x00\x00";
-    ask_b(store, b"K 8, item 1 shut", 8, shut);
-    ask_b(store, b"K 7, item 1 shut", 7, shut);
-    ask_b(store, b"K 8, items 1 and 4 shut", 8, more);
-    ask_b(store, b"B", 8, open);
-    ask_b(store, b"K 9, item 1 shut", 9, shut);
-    ask_b(store, b"K 8, item 1 must", 8, must);
+    ask_b(rt, store, b"K 8, item 1 shut", 8, shut)?;
+    ask_b(rt, store, b"K 7, item 1 shut", 7, shut)?;
+    ask_b(rt, store, b"K 8, items 1 and 4 shut", 8, more)?;
+    ask_b(rt, store, b"B", 8, open)?;
+    ask_b(rt, store, b"K 9, item 1 shut", 9, shut)?;
+    ask_b(rt, store, b"K 8, item 1 must", 8, must)
 }
 
 // A slip that the newcomer subsumes goes; a newcomer that a slip subsumes is not put.
-fn put_subsumed() {
-    let wide = put_two_shut(store::empty(), b"\x01\x00\x02\x01\x05");
-    let narrow = put_two_shut(wide, b"\x01\x00\x01\x05");
-    put_two_shut(narrow, b"\x01\x00\x02\x01\x05");
+fn put_subsumed(rt: &impl Print) -> io::Result<()> {
+    let wide = put_two_shut(rt, store::empty(), b"\x01\x00\x02\x01\x05")?;
+    let narrow = put_two_shut(rt, wide, b"\x01\x00\x01\x05")?;
+    put_two_shut(rt, narrow, b"\x01\x00\x02\x01\x05")?;
+    Ok(())
 }
 
 // The slip that was put earliest is found, by the order of puts and not of rooms, although the pass writes the other.
-fn ask_earliest() {
-    let one = put_two_shut(store::empty(), b"\x01\x00\x02\x01\x05");
+fn ask_earliest(rt: &impl Print) -> io::Result<()> {
+    let one = put_two_shut(rt, store::empty(), b"\x01\x00\x02\x01\x05")?;
     let must = sheet_of_b(14, b"\x00\x01\x01\x00\x00\x00\x00\x00\x02");
     let name = b"K 14, places 1 and 2 must, item 8 shut";
-    let two = show_put(one, name, &must, b"\x03\x02\x01\x02\x01\x08");
-    let three = put_two_shut(two, b"\x01\x00\x01\x05");
+    let two = show_put(rt, one, name, &must, b"\x03\x02\x01\x02\x01\x08")?;
+    let three = put_two_shut(rt, two, b"\x01\x00\x01\x05")?;
     let later = sheet_of_b(8, b"\x00\x01\x01\x00\x00\x02\x00\x00\x02");
     let later_name = b"K 8, places 1 and 2 must, items 5 and 8 shut";
-    show_ask(three, later_name, &later);
-    show_pass(b"  pass of the same sheet", &later);
+    show_ask(rt, three, later_name, &later)?;
+    show_pass(rt, b"  pass of the same sheet", &later)
 }
 
 // Slips that are refused: check says no, a reason for an item, another map.
-fn put_refused() {
-    let first = put_one_shut(store::empty(), b"\x01\x00\x00");
+fn put_refused(rt: &impl Print) -> io::Result<()> {
+    let first = put_one_shut(rt, store::empty(), b"\x01\x00\x00")?;
     let b = sheet_of_b(8, b"\x00\x00\x00\x00\x00\x00\x00\x00\x00");
-    let second = show_put(first, b"B", &b, b"\x04\x01\x02\x00");
-    let store = put_one_shut(second, b"\x01\x00\x01\x01");
-    put_two(store, b"\x02\x01\x02\x00");
+    let second = show_put(rt, first, b"B", &b, b"\x04\x01\x02\x00")?;
+    let store = put_one_shut(rt, second, b"\x01\x00\x01\x01")?;
+    put_two(rt, store, b"\x02\x01\x02\x00")?;
     let other = sheet_of_two();
-    show_ask(store, b"K 0, two places, item 2 must", &other);
+    show_ask(rt, store, b"K 0, two places, item 2 must", &other)
 }
 
 // A 2 and a 3 with the same lists and limit subsume each other: the one put first stays.
-fn put_alike() {
-    let store = put_two(store::empty(), b"\x02\x01\x02\x00");
-    put_two(store, b"\x03\x01\x02\x00");
+fn put_alike(rt: &impl Print) -> io::Result<()> {
+    let store = put_two(rt, store::empty(), b"\x02\x01\x02\x00")?;
+    put_two(rt, store, b"\x03\x01\x02\x00")?;
+    Ok(())
 }
 
 // Minutes and service minutes are compared, not their sums: sheets of the same weights with other service minutes are refused.
-fn ask_served() {
+fn ask_served(rt: &impl Print) -> io::Result<()> {
     let store = show_put(
+        rt,
         store::empty(),
         b"B with service 2 at place 1",
         b"\x01\x04\x05\x00\x03\x08\x00\x01\x04\x01\x03\x04\x00\x02\x03\x02\x03\x09\x01\x02\x01\x00\x00\x00\x00\x00\x00\x00\x00\x00\x00\x02\x00\x00",
         b"\x01\x00\x00",
-    );
+    )?;
     show_ask(
+        rt,
         store,
         b"K 7, service 2 at place 1",
         b"\x01\x04\x05\x00\x03\x07\x00\x01\x04\x01\x03\x04\x00\x02\x03\x02\x03\x09\x01\x02\x01\x00\x00\x00\x00\x00\x00\x00\x00\x00\x00\x02\x00\x00",
-    );
+    )?;
     show_ask(
+        rt,
         store,
         b"K 8, service 1 at place 1, leg 0 of 5 minutes",
         b"\x01\x04\x05\x00\x03\x08\x00\x01\x05\x01\x03\x04\x00\x02\x03\x02\x03\x09\x01\x02\x01\x00\x00\x00\x00\x00\x00\x00\x00\x00\x00\x01\x00\x00",
-    );
+    )?;
     show_ask(
+        rt,
         store,
         b"K 8, no services, leg 0 of 6 minutes",
         b"\x04\x05\x00\x03\x08\x00\x01\x06\x01\x03\x04\x00\x02\x03\x02\x03\x09\x01\x02\x01\x00\x00\x00\x00\x00\x00\x00\x00\x00",
-    );
+    )
 }
 
-fn main() {
-    starred_rounds();
-    starred_refusals();
-    starred_closures();
-    starred_reasons();
-    must_legs();
-    twin_legs();
-    longest_walks();
-    served_rounds();
-    served_touches();
-    bad_sheets();
-    large_sheets();
-    bounds();
-    bad_served();
-    show_short_slip();
-    views();
-    empty_views();
-    written_sheets();
-    unwritten_sheets();
-    unwritten_legs();
-    written_services();
-    numbers();
-    overlong_numbers();
-    unended_numbers();
-    ask_empty();
-    ask_one();
-    put_subsumed();
-    ask_earliest();
-    put_refused();
-    put_alike();
-    ask_served();
+fn main(rt: HostRuntime) -> io::Result<()> {
+    starred_rounds(&rt)?;
+    starred_refusals(&rt)?;
+    starred_closures(&rt)?;
+    starred_reasons(&rt)?;
+    must_legs(&rt)?;
+    twin_legs(&rt)?;
+    longest_walks(&rt)?;
+    served_rounds(&rt)?;
+    served_touches(&rt)?;
+    bad_sheets(&rt)?;
+    large_sheets(&rt)?;
+    bounds(&rt)?;
+    bad_served(&rt)?;
+    show_short_slip(&rt)?;
+    views(&rt)?;
+    empty_views(&rt)?;
+    written_sheets(&rt)?;
+    unwritten_sheets(&rt)?;
+    unwritten_legs(&rt)?;
+    written_services(&rt)?;
+    numbers(&rt)?;
+    overlong_numbers(&rt)?;
+    unended_numbers(&rt)?;
+    ask_empty(&rt)?;
+    ask_one(&rt)?;
+    put_subsumed(&rt)?;
+    ask_earliest(&rt)?;
+    put_refused(&rt)?;
+    put_alike(&rt)?;
+    ask_served(&rt)
 }

@@ -1,6 +1,6 @@
 -- Sums and the lesser of two lengths by numbers that may be more than the cap: where a number is above it, so is the length. Assumes nothing.
 use Prim.Native.Nat.{ℕ, ◌+◌, ◌≤◌, ◌<◌}
-use mathlib.Core.Path.{◌≡◌, sym, ap, ◌∙◌}
+use mathlib.Core.Path.{◌≡◌, refl, sym, ap, ◌∙◌}
 use native.Mathlib.Omega.{arith}
 use native.Mathlib.Decide.{dec_lt}
 use Rattle.walks.specs.Lengths.{Least, some, lesser, plus}
@@ -13,13 +13,13 @@ data Loose (cap : ℕ) (r : Least) : ℕ → Type 0 where
   over : {x : ℕ} → cap < x → Above cap r → Loose cap r x
 
 loose : (cap x : ℕ) (r : Least) → cap < missing → held cap (some x) ≡ held cap r → Loose cap r x
-loose cap x r c e = go (holds cap r e) (held_is cap (some x))
+loose cap x r c e = go refl (holds cap r e) (held_is cap (some x))
   where
-    go : {y : ℕ} → Held cap r y → Held cap (some x) y → Loose cap r x
-    go (low {k = k} l p) (low m q) = let z : x ≡ k = cc in rw z (exact l p)
-    go (low l p) (high a) = absurd (omega arith)
-    go (high a) (low m q) = absurd (omega arith)
-    go (high a) (high b) = over b a
+    go : {y z : ℕ} → y ≡ z → Held cap r y → Held cap (some x) z → Loose cap r x
+    go f (low {k = k} l p) (low m q) = let z : x ≡ k = cc in rw z (exact l p)
+    go f (low l p) (high a) = absurd (omega arith)
+    go f (high a) (low m q) = absurd (omega arith)
+    go f (high a) (high b) = over b a
 
 is_loose : {cap x : ℕ} {r : Least} → Loose cap r x → held cap (some x) ≡ held cap r
 is_loose {cap} (exact l e) = ap (held cap) (sym e)

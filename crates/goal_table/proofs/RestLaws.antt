@@ -17,7 +17,7 @@ use Rattle.goal_table.specs.Sets.{has}
 has_bit : (S i b : ℕ) → bit_of S i ≡ b → has S i ≡ eqb b 1
 has_bit S i b e = has_digit S i ∙ ap (λ (x : ℕ). eqb x 1) e
 
--- the rest of the set S once its goals below k are taken off, k lying no further than just just_past the last one
+-- the rest of the set S once its goals below k are taken off, k lying no further than just past the last one
 pub record Rest (S k rest : ℕ) : Type 0 where
   pub gone : (i : ℕ) → i < k → has rest i ≡ false
   pub left : (i : ℕ) → k ≤ i → has rest i ≡ has S i

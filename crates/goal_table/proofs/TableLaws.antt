@@ -88,7 +88,7 @@ module _ {N : Net} {cap a : ℕ} {goals : List ℕ} {S : ℕ} {work : List ℕ} 
       (λ (b : ℕ). SetAsked N cap a goals (S - b) (get_or work (576 + i) 0) work → x ≡ held cap (least (graph N) (closed N) (chosen goals (S - b)) a (get_or work (576 + i) 0)))
       q (reach N a goals) (asked_of F (S - 2 ^ i) (get_or work (576 + i) 0) l (omega arith) (F.inside i below))
 
-  -- and just_past the goal itself
+  -- and just past the goal itself
   pub past_is : (way r : ℕ) → way ≡ held cap to_entry → ((p q : Least) → way ≡ held cap p → get_or work (584 + i) 0 ≡ held cap q → r ≡ held cap (plus p q))
       → r ≡ held cap (just_past (graph N) (closed N) a goals (S - 2 ^ i) i)
   unfolding just_past

@@ -21,7 +21,7 @@ unfoldable pub given : Bool → Least → Least
 given true r = r
 given false r = none
 
--- the goals of the set met, then goal i, and the walk just just_past it
+-- the goals of the set met, then goal i, and the walk just past it
 unfoldable pub just_past : Graph → (ℕ → Bool) → ℕ → List ℕ → ℕ → ℕ → Least
 just_past G closed a goals set i =
     plus (least G closed (chosen goals set) a (entry_of G (get_or goals i 0))) (own_of G closed (get_or goals i 0))

@@ -1,4 +1,6 @@
 // An entry of the table over sets of goals: the least length of a walk that meets the goals of a set and has just met one of them.
+#![tactic(auto)]
+
 ghost use Rattle.std.specs.Prelude.{◌≡◌, true, List, ℕ, ◌+◌, ◌*◌, ◌^◌, ◌≤◌, ◌<◌, length, get_or};
 ghost use Rattle.walks.specs.Lengths.{some};
 ghost use Rattle.rows.specs.Held.{missing, held};

@@ -1,4 +1,6 @@
 // Goals: where one is entered and left, its own length, and sums up to the cap.
+#![tactic(auto)]
+
 ghost use Rattle.std.specs.Prelude.{◌≡◌, ◌+◌, ◌*◌, ◌≤◌, ◌<◌};
 ghost use Rattle.walks.specs.Lengths.{Least, plus};
 ghost use Rattle.walks.specs.Graph.{closed_in};

@@ -1,4 +1,6 @@
 // The greedy list (document 01, 'Reasons').
+#![tactic(auto)]
+
 ghost use Rattle.std.specs.Prelude.{◌≡◌, ℕ, ◌+◌, ◌≤◌, ◌<◌, length, get_or};
 ghost use Rattle.lists.specs.Lists.{Put};
 ghost use Rattle.walks.specs.Flat.{graph_of};

@@ -16,7 +16,7 @@ use Rattle.lists.proofs.MemberLaws.{member_place, member_away}
 use Rattle.walks.specs.Graph.{Graph, closed_in, least}
 use Rattle.walks.specs.Goals.{entry_of, exit_of, own_of}
 use Rattle.walks.proofs.OpenedLaws.{open_other}
-use Rattle.rows.specs.Held.{held, kept}
+use Rattle.rows.specs.Held.{held}
 use Rattle.rows.specs.Net.{Net, Proper, Packed}
 use Rattle.rows.specs.Rows.{StartsFit}
 use Rattle.rows.proofs.ArcLaws.{item_at, entry_below}

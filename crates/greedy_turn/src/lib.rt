@@ -1,4 +1,6 @@
 // An item's turn in the greedy list (document 01, 'Reasons').
+#![tactic(auto)]
+
 ghost use Rattle.std.specs.Prelude.{◌≡◌, true, false, not, ◌+◌, ◌≤◌, ◌<◌, length, drop};
 ghost use Rattle.lists.specs.Lists.{member};
 ghost use Rattle.rows.specs.Held.{missing};
@@ -34,7 +36,7 @@ fn fits_limit(query: Query, arcs: &[u32], marks: &[u8], goals: &[usize], work: &
 }
 
 // How many rows there are, and which of them are kept, one bit each.
-#[derive(Drop)]
+#[derive(Clone, Copy)]
 pub struct KeptRows {
     pub rows: usize,
     pub bits: u64,
@@ -65,7 +67,7 @@ fn stays_open(
 }
 
 // An item whose turn it is, with `count` arcs linked. The places that come with it are where each of the `rows` rows starts, and behind them the goals.
-#[derive(Drop)]
+#[derive(Clone, Copy)]
 pub struct Turn {
     pub nodes: usize,
     pub item: usize,
@@ -76,7 +78,7 @@ pub struct Turn {
 }
 
 // What a turn gives: whether the item is listed, and how many arcs are linked then.
-#[derive(Drop)]
+#[derive(Clone, Copy)]
 pub struct TurnEnd {
     pub listed: bool,
     pub count: usize,

@@ -1,5 +1,7 @@
 // Whether some walk within a sheet's limit meets an item, by the least lengths from the source and to the target (Propositions 1 and 2 of source document
 // 002), or several goals at once. What a sheet asks of the length layer is said here alone.
+#![tactic(auto)]
+
 ghost use Rattle.std.specs.Prelude.{◌≡◌, [], ◌∷◌, ◌+◌, ◌≤◌, ◌<◌, length};
 ghost use Rattle.walks.specs.Flat.{graph_of};
 ghost use Rattle.walks.specs.Graph.{closed_in, fits};

@@ -1,4 +1,6 @@
 // The least length of a walk through one item (Propositions 1 and 2 of source document 002), with any cap: how long the way is that was struck off.
+#![tactic(auto)]
+
 ghost use Rattle.std.specs.Prelude.{◌≡◌, [], ◌∷◌, ◌+◌, ◌≤◌, ◌<◌, length};
 ghost use Rattle.walks.specs.Graph.{closed_in, least};
 ghost use Rattle.walks.specs.Flat.{graph_of};

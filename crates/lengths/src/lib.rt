@@ -1,4 +1,6 @@
 // The least length of a walk that meets some goals (document 01, 'Map, walk, round'), by rows from where the goals are left and a table over their sets.
+#![tactic(auto)]
+
 ghost use Rattle.std.specs.Prelude.{◌≡◌, ℕ, ◌+◌, ◌≤◌, ◌<◌, length, get_or, take, drop};
 ghost use Rattle.walks.specs.Graph.{closed_in, least as least_of};
 ghost use Rattle.walks.specs.Flat.{graph_of};
@@ -11,7 +13,7 @@ use rows::{ENTRIES, ROWS};
 use walks::ARC_NUMBERS;
 
 // What a least length is asked for: a walk from `from` to `to` in a graph of `nodes` nodes, of length at most `cap`.
-#[derive(Drop)]
+#[derive(Clone, Copy)]
 pub struct Query {
     pub nodes: usize,
     pub from: usize,

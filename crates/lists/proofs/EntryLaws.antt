@@ -45,6 +45,7 @@ module _ {A : Type 0} where
       forth (y ∷ ys) e = ⊎_elim (λ q. (y, here, q)) (λ q. let w = forth ys q in (w.0, there w.1, w.2)) (or_true (f y) (any f ys) e)
 
       back : (xs : List A) (x : A) → Entry x xs → f x ≡ true → any f xs ≡ true
+      back [] x m q = elim m [ ]
       back (y ∷ ys) x here q = or_of (f y) (any f ys) (inl q)
       back (y ∷ ys) x (there e) q = or_of (f y) (any f ys) (inr (back ys x e q))
 
@@ -71,6 +72,7 @@ module _ {A : Type 0} where
   -- an entry that passes the test is kept
   pub entry_keep : (f : A → Bool) {x : A} (xs : List A) → Entry x xs → f x ≡ true → Entry x (keep f xs)
   unfolding keep add
+  entry_keep f {x = x} [] m q = elim m [ ]
   entry_keep f (y ∷ ys) here q = rw q here
   entry_keep f {x} (y ∷ ys) (there e) q = later (f y) (entry_keep f ys e q)
     where

@@ -1,4 +1,6 @@
 // Tests over lists of numbers, and the definitions and laws on lists that every crate shares.
+#![tactic(auto)]
+
 ghost use Rattle.std.specs.Prelude.{◌≡◌, ltb};
 ghost use Rattle.lists.specs.Lists.{member, every, ascends, alike};
 

@@ -1,4 +1,7 @@
 // Several numbers one behind the other (document 01, 'Sheet and slip'): passed over, read, measured and written.
+
+#![tactic(auto)]
+
 ghost use Rattle.std.specs.Prelude.{◌≡◌, true, ◌+◌, ◌≤◌, ◌<◌, length, drop};
 ghost use Rattle.lists.specs.Lists.{front, Put};
 ghost use Rattle.varint.specs.Varint.{read_number, write_numbers};
@@ -9,7 +12,7 @@ ghost use Rattle.numbers.specs.Answer.{SectionIs, section_end};
 use varint::Number;
 
 // Where a section of values of one kind ends, or the refusal.
-#[derive(Drop)]
+#[derive(Clone, Copy)]
 pub enum SectionRead {
     Got(usize),
     Refused(u32),

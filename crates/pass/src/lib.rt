@@ -1,4 +1,6 @@
 // The pass (document 01): strikes off what no walk within the limit can use, or refuses the round and lists the closures to blame.
+#![tactic(auto)]
+
 ghost use Rattle.std.specs.Prelude.{◌≡◌, true, ◌≤◌, length};
 ghost use Rattle.lists.specs.Lists.{member, Put};
 ghost use Rattle.rows.specs.Net.{net_of};

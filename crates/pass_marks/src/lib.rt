@@ -1,4 +1,6 @@
 // The marks that a pass leaves (document 01, 'The pass, in its order').
+#![tactic(auto)]
+
 ghost use Rattle.std.specs.Prelude.{◌≡◌, ◌∷◌, ◌+◌, ◌≤◌, ◌<◌, length};
 ghost use Rattle.lists.specs.Lists.{front, Put};
 ghost use Rattle.pass_rules.specs.Verdict.{new_mark, new_marks};

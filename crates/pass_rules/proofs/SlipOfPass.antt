@@ -8,7 +8,6 @@ use lib.ListN.{length, get_or, length-map}
 use lib.Dec.{ltb}
 use borrow.Author.Tests.{lt-ltb}
 use Rattle.reason_list.proofs.ReasonLaws.{reasons_closed, reasons_ascend}
-use Rattle.reason_list.specs.Reasons.{reasons}
 use Rattle.lists.proofs.AscendLaws.{ascends_distinct, length_span, map_span_at}
 use Rattle.lists.proofs.Pigeonhole.{Below, below_all, below_le, pigeonhole}
 use Rattle.lists.specs.Lists.{span, ascends}

@@ -1,1 +1,2 @@
 // What the pass answers: definitions and laws, with demand 2. The code is in the crates above.
+#![tactic(auto)]

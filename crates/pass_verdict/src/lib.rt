@@ -1,4 +1,6 @@
 // The verdict of document 01 ('The pass, in its order').
+#![tactic(auto)]
+
 ghost use Rattle.std.specs.Prelude.{◌≡◌, true, not, ◌&&◌, [], ◌∷◌, ◌+◌, ◌≤◌, ◌<◌, length, get_or};
 ghost use Rattle.sheet.specs.Sheet.{is_mandatory, sheet_of};
 ghost use Rattle.pass_rules.specs.Verdict.{fits_sheet, unmet};
@@ -37,7 +39,7 @@ fn first_unmet(header: Header, arcs: &[u32], marks: &[u8], rows: &[u32]) -> usiz
 }
 
 // A verdict's number, and how many goals it has.
-#[derive(Drop)]
+#[derive(Clone, Copy)]
 pub struct Verdict {
     pub number: u32,
     pub count: usize,

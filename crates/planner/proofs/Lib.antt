@@ -4,5 +4,3 @@ pub mod WriteLaws
 pub mod NumberLaws
 pub mod CopyLaws
 pub mod Calls
-pub mod OneCall
-pub mod StoreCell

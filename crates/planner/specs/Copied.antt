@@ -4,7 +4,7 @@ use Rattle.lists.specs.Lists.{front}
 use Rattle.pass_rules.specs.Pass as pass
 use Rattle.check_rules.specs.Check as check
 use Rattle.planner.specs.Layer as layer
-use Rattle.planner.specs.Check as layerCheck
+use Rattle.planner.specs.Check as layer_check
 use Rattle.planner.specs.Check.{yes_number}
 
 -- the number that the first four bytes hold
@@ -26,5 +26,5 @@ abbrev pub copied_out : pass.Outcome → List ℕ → layer.BytesOutcome
 copied_out o work = record { number = 65536 * o.number + o.length; work = front (work_bytes_of o.work) work; slip = o.slip }
 
 -- check over numbers, copied out
-abbrev pub check_copied_out : check.CheckOutcome → List ℕ → layerCheck.CheckBytesOutcome
+abbrev pub check_copied_out : check.CheckOutcome → List ℕ → layer_check.CheckBytesOutcome
 check_copied_out o work = record { number = 65536 * o.number + yes_number o.yes; work = front (work_bytes_of o.work) work }

@@ -1,8 +1,11 @@
-// The planner's layer (document 01, 'The operations and what they refuse'): the operations for a program in C, with numbers and slices alone.
+// The planner's layer (document 01, 'The operations and what they refuse'): the operations with numbers and slices alone. What a program in C calls are
+// the functions of the same names in `planner_c`, which call these.
 //
 // The work is lent as bytes, four per number, low byte first. What its numbers hold has no effect on an answer, and an operation leaves them as found or zero;
 // so each call lends the operation nothing of them, and the bytes are left as found or zeroed by the same rule. That this is what copying the bytes in and
 // the numbers out would give are the laws `pass_copied`, `reason_copied` and `check_copied`.
+#![tactic(auto)]
+
 ghost use Rattle.std.specs.Prelude.{◌≡◌, ◌≤◌};
 ghost use Rattle.planner.specs.Layer.{passed_bytes, reasoned_bytes};
 ghost use Rattle.planner.specs.Check.{yes_number, checked_bytes};
@@ -23,9 +26,8 @@ fn yes_number(yes: bool) -> usize
     if yes { 1 } else { 0 }
 }
 
-// Pass for a program in C.
-#[unsafe(no_mangle)]
-pub extern "C" fn ways_pass(sheet: &[u8], work: &mut [u8], slip: &mut [u8]) -> u32
+// Pass with the work lent as bytes: the one number of the call.
+pub fn ways_pass(sheet: &[u8], work: &mut [u8], slip: &mut [u8]) -> u32
     ensures { record { number = result; work = work.new; slip = slip.new }
         ≡ passed_bytes sheet.now work.old slip.old }
 {
@@ -40,9 +42,8 @@ pub extern "C" fn ways_pass(sheet: &[u8], work: &mut [u8], slip: &mut [u8]) -> u
     work::one_number(answer.number, answer.length)
 }
 
-// Reason for a program in C.
-#[unsafe(no_mangle)]
-pub extern "C" fn ways_reason(sheet: &[u8], work: &mut [u8], slip: &mut [u8], item: u32) -> u32
+// Reason with the work lent as bytes: the one number of the call.
+pub fn ways_reason(sheet: &[u8], work: &mut [u8], slip: &mut [u8], item: u32) -> u32
     ensures { record { number = result; work = work.new; slip = slip.new }
         ≡ reasoned_bytes sheet.now work.old slip.old item }
 {
@@ -57,9 +58,8 @@ pub extern "C" fn ways_reason(sheet: &[u8], work: &mut [u8], slip: &mut [u8], it
     work::one_number(answer.number, answer.length)
 }
 
-// Check for a program in C.
-#[unsafe(no_mangle)]
-pub extern "C" fn ways_check(sheet: &[u8], work: &mut [u8], slip: &[u8]) -> u32
+// Check with the work lent as bytes: the one number of the call.
+pub fn ways_check(sheet: &[u8], work: &mut [u8], slip: &[u8]) -> u32
     ensures { record { number = result; work = work.new } ≡ checked_bytes sheet.now work.old slip.now }
 {
     if work.len() < WORK_BYTES {
@@ -70,9 +70,8 @@ pub extern "C" fn ways_check(sheet: &[u8], work: &mut [u8], slip: &[u8]) -> u32
     work::one_number(answer.number, yes_number(answer.yes))
 }
 
-// Writes a sheet for a program in C. It has more than six parameters, since C lends no struct here: each number of the header comes by itself.
-#[unsafe(no_mangle)]
-pub extern "C" fn ways_write(
+// Writes a sheet: the one number of the call. It has more than six parameters, since C lends no struct here: each number of the header comes by itself.
+pub fn ways_write(
     n: u32,
     m: u32,
     start: u32,
@@ -98,14 +97,8 @@ pub extern "C" fn ways_write(
     work::one_number(answer.number, answer.length)
 }
 
-// Put for a program in C: the store itself is lent and holds the change afterwards.
-#[unsafe(no_mangle)]
-pub extern "C" fn ways_store_put(
-    store: &mut Store,
-    sheet: &[u8],
-    work: &mut [u8],
-    slip: &[u8],
-) -> u32
+// Put with the work lent as bytes: the store itself is lent and holds the change afterwards.
+pub fn ways_store_put(store: &mut Store, sheet: &[u8], work: &mut [u8], slip: &[u8]) -> u32
     ensures { (record { number = result; shelf = shelf_of store.new; work = work.new }
         ≡ put_bytes (shelf_of store.old) sheet.now work.old slip.now)
         × (shelf_of store.new ≡ shelf_of store.old → store.new ≡ store.old) }
@@ -115,17 +108,15 @@ pub extern "C" fn ways_store_put(
     answer.number
 }
 
-// Ask for a program in C: the store is lent, only to be read.
-#[unsafe(no_mangle)]
-pub extern "C" fn ways_store_ask(store: &Store, sheet: &[u8], slip: &mut [u8]) -> u32
+// Ask with the slip written: the store is lent, only to be read.
+pub fn ways_store_ask(store: &Store, sheet: &[u8], slip: &mut [u8]) -> u32
     ensures { record { number = result; slip = slip.new } ≡ ask_bytes (shelf_of store.now) sheet.now slip.old }
 {
     store_bytes::ask_bytes(*store, sheet, slip)
 }
 
 // The store that is lent holds nothing afterwards.
-#[unsafe(no_mangle)]
-pub extern "C" fn ways_store_empty(store: &mut Store)
+pub fn ways_store_empty(store: &mut Store)
     ensures { store.new ≡ empty_store }
 {
     *store = store::empty();

@@ -1,29 +1,66 @@
-// The programs' standard input.
-ghost use Rattle.std.specs.Prelude.{◌≡◌, length};
-ghost use Rattle.libc.specs.Io.{Moved};
+// The programs' standard input, and what they say where it or standard output fails.
+#![tactic(auto)]
 
-use libc::STDIN_FILENO;
+ghost use Rattle.std.specs.Prelude.{◌≡◌, ◌≤ℤ◌, pos, negsuc, length, MatchOption};
+ghost use Rattle.program_input.specs.Reads.{Moved, Filled};
+ghost use Rattle.program_input.specs.Words.{IsWords};
+
+use std::io::{Cursor, Error, Read, Write};
 
 // The bytes that a program reads at most.
 pub const INPUT_BYTES: usize = 8192;
 
-// Reads until `input` is full or standard input ends, and answers how many bytes are then at its start, or -1 where a read failed: a sheet of which only
-// a part could be read is not judged. Which bytes are read no contract can say.
-pub fn read_input(input: &mut [u8]) -> isize
+// Reads until `input` is full or the reader ends, and answers how many bytes are then at its start, or -1 where a read failed: a sheet of which only
+// a part could be read is not judged. Where a read failed, and only there, its error is then in `fault`. Which bytes are read no contract can
+// say of standard input; of a reader whose bytes are known the last clause says it.
+pub fn read_input<R: Read>(reader: &mut R, input: &mut [u8], fault: &mut Option<Error>) -> isize
     requires { length input.old ≡ 8192 }
-    ensures { Moved 8192 result }
+    ensures moved { Moved 8192 result }
+    ensures told { MatchOption fault.new ((pos 0 ≤ℤ result) × (result ≤ℤ pos 8192)) (λ _. result ≡ negsuc 0) }
+    ensures filled { Filled (R.remaining reader.old) (R.remaining reader.new) input.new result }
 {
+    *fault = None;
     let mut done: usize = 0;
     while done < input.len() {
-        let got = libc::read(STDIN_FILENO, &mut input[done..]);
-        if got < 0 {
-            return -1;
-        }
-        let more = io::count(got, &input[done..]);
+        let more = match reader.read(&mut input[done..]) {
+            Ok(more) => more,
+            Err(error) => {
+                *fault = Some(error);
+                return -1;
+            }
+        };
         if more == 0 {
             return done as isize;
         }
         done += more;
     }
     done as isize
+}
+
+// More bytes than the library prints of any error of the system.
+const SAID_BYTES: usize = 128;
+
+// An error's words without its number: the library prints ` (os error 21)` behind the system's words. A text without a number is its own words.
+pub fn words_of(text: &str) -> &str
+    ensures { IsWords text.now result.now }
+{
+    match text.rsplit_once(" (os error ") {
+        Some((words, _)) => words,
+        None => text,
+    }
+}
+
+// Says on standard error, on a line, what failed, a colon and the system's words for why.
+pub fn say_failed(rt: &impl Eprint, what: &str, error: Error) {
+    let mut said = Cursor::new([0u8; SAID_BYTES]);
+    let _ = write!(said, "{error}");
+    let length = said.position().min(SAID_BYTES as u64) as usize;
+    let bytes = said.into_inner();
+    let _ = match str::from_utf8(&bytes[..length]) {
+        Ok(text) => {
+            let words = words_of(text);
+            eprintln!(rt; "{what}: {words}")
+        }
+        Err(_) => eprintln!(rt; "{what}: {error}"),
+    };
 }

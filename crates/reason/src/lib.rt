@@ -1,4 +1,6 @@
 // Reason (document 01): which closures struck an item off.
+#![tactic(auto)]
+
 ghost use Rattle.std.specs.Prelude.{◌≡◌, [], ◌+◌, ◌≤◌, ◌<◌, length};
 ghost use Rattle.sheet.specs.Answer.{answer_of, wrote};
 ghost use Rattle.rows.specs.Rows.{scratch_numbers};

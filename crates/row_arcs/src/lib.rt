@@ -1,4 +1,6 @@
 // The open arcs with an open head, packed to the front of an array.
+#![tactic(auto)]
+
 ghost use Rattle.std.specs.Prelude.{ℕ, ◌*◌, ◌≤◌, ◌<◌, List, ◌++◌, length, take};
 ghost use Rattle.lists.specs.Lists.{Put};
 ghost use Rattle.rows.specs.Net.{net_of, arc_count, Proper, Packed};

@@ -1,4 +1,6 @@
 // Rows filled from nothing: from a node, to a node, or from several nodes over arcs packed once.
+#![tactic(auto)]
+
 ghost use Rattle.std.specs.Prelude.{◌≡◌, ℕ, ◌*◌, ◌≤◌, ◌<◌, length, get_or, replicate, drop};
 ghost use Rattle.rows.specs.Held.{missing};
 ghost use Rattle.rows.specs.Net.{Net, net_of, arc_count, Proper, Joins};

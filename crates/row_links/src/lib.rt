@@ -1,4 +1,6 @@
 // The open arcs, packed and chained by their tails, while items are opened and closed again.
+#![tactic(auto)]
+
 ghost use Rattle.std.specs.Prelude.{◌≡◌, ◌+◌, ◌*◌, ◌≤◌, ◌<◌, length, get_or, take, drop};
 ghost use Rattle.rows.specs.Net.{net_of, arc_count, tail_in, Proper, Joins};
 ghost use Rattle.row_spread.specs.Arcs.{ChainedBy};

@@ -1,4 +1,6 @@
 // A forbidden item opened: the rows mended for it, and those that it cuts kept.
+#![tactic(auto)]
+
 ghost use Rattle.std.specs.Prelude.{◌≡◌, true, false, ◌+◌, ◌*◌, ◌≤◌, ◌<◌, length, take};
 ghost use Rattle.rows.specs.Held.{missing};
 ghost use Rattle.rows.specs.Net.{net_of, arc_count, Proper, Joins};
@@ -30,7 +32,7 @@ fn cuts(row: &[u32], tail: usize, head: usize, weight: u32, cap: u32) -> bool
 }
 
 // What is opened, as the rows meet it: the nodes whose arcs are to be tried first, one bit each, and a node, or an arc with its ends and weight.
-#[derive(Drop)]
+#[derive(Clone, Copy)]
 pub struct Change {
     pub active: u64,
     pub node: bool,
@@ -52,7 +54,7 @@ fn may_cut(row: &[u32], change: Change, cap: u32) -> bool
 }
 
 // A row by its number, the node where it starts, how many arcs are packed, the cap, and the rows that are kept already, one bit each.
-#[derive(Drop)]
+#[derive(Clone, Copy)]
 pub struct Row {
     pub number: usize,
     pub from: usize,
@@ -96,7 +98,7 @@ fn mend_kept(row: Row, change: Change, packed: &[u32], marks: &[u8], work: &mut 
 }
 
 // An item of a graph of `nodes` nodes that is opened, for walks of length at most `cap`, with `count` arcs packed.
-#[derive(Drop)]
+#[derive(Clone, Copy)]
 pub struct Opening {
     pub nodes: usize,
     pub item: usize,

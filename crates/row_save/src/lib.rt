@@ -1,4 +1,6 @@
 // Rows kept while an item is opened: put aside, put back, compared. A set has a bit for each row that is kept.
+#![tactic(auto)]
+
 ghost use Rattle.std.specs.Prelude.{◌≡◌, true, false, ◌⊎◌, ◌+◌, ◌*◌, ◌≤◌, ◌<◌, eqb, length};
 ghost use Rattle.rows.specs.Bits.{bit_of};
 ghost use Rattle.row_save.specs.Kept.{RowPut, PutBack};

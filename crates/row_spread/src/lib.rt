@@ -1,4 +1,6 @@
 // A row mended from a few nodes on, by the arcs that leave them, chained by their tails.
+#![tactic(auto)]
+
 ghost use Rattle.std.specs.Prelude.{◌≡◌, ℕ, ◌+◌, ◌*◌, ◌≤◌, ◌<◌, length, get_or};
 ghost use Rattle.rows.specs.Held.{missing};
 ghost use Rattle.rows.specs.Net.{arc_count, Joins};
@@ -105,7 +107,7 @@ fn spread_active(arcs: &[u32], chains: &[u32], row: &mut [u32], active: u64, cap
 }
 
 // A row that starts at `from`, with the nodes whose arcs are to be tried first, one bit each, and the cap.
-#[derive(Drop)]
+#[derive(Clone, Copy)]
 pub struct Mend {
     pub from: usize,
     pub active: u64,

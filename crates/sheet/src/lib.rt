@@ -1,8 +1,9 @@
 // The definitions of sheets and slips, in specs/, the header of a sheet, and the bounds that its reader and its writer share. The code is in the crates
 // above.
+#![tactic(auto)]
 
 // The five numbers in front of a sheet: n, m, start, finish and K of document 01.
-#[derive(Drop)]
+#[derive(Clone, Copy)]
 pub struct Header {
     pub nodes: usize,
     pub arcs: usize,

@@ -1,5 +1,8 @@
 // What is wrong with numbers that are to become a sheet: each is judged as the reader judges a sheet's, in the order of the sheet; and whether there is room
 // for it.
+
+#![tactic(auto)]
+
 ghost use Rattle.std.specs.Prelude.{◌≡◌, ◌≤◌, length, leb};
 ghost use Rattle.sheet.specs.Draft.{draft_of};
 ghost use Rattle.sheet.specs.Writer.{header_fault, arc_fault, arcs_fault, marks_fault, services_fault, fault, draft_fault};

@@ -1,4 +1,7 @@
 // The parts of a sheet in front of the marks (document 01, 'Sheet and slip'): the five numbers and the arcs.
+
+#![tactic(auto)]
+
 ghost use Rattle.std.specs.Prelude.{◌≡◌, ◌*◌, ◌≤◌, length, drop};
 ghost use Rattle.lists.specs.Lists.{front};
 ghost use Rattle.walks.specs.Flat.{flat};
@@ -18,14 +21,14 @@ const NODES_END: u32 = 65;
 const ARCS_END: u32 = 513;
 
 // The five numbers and the position after them, or the refusal.
-#[derive(Drop)]
+#[derive(Clone, Copy)]
 pub enum HeaderRead {
     Got(Header, usize),
     Refused(u32),
 }
 
 // A number that was judged fine, and the position after it.
-#[derive(Drop)]
+#[derive(Clone, Copy)]
 pub struct Field {
     pub value: u32,
     pub next: usize,
@@ -91,7 +94,7 @@ pub fn header_of(sheet: &[u8]) -> HeaderRead
 }
 
 // An arc of the sheet: tail, head, minutes and the position after it, or the refusal.
-#[derive(Drop)]
+#[derive(Clone, Copy)]
 pub enum ArcRead {
     Got(u32, u32, u32, usize),
     Refused(u32),

@@ -1,4 +1,7 @@
 // The sheet's reader (document 01, 'Sheet and slip', refusals 3 to 13; document 02, request 2.7).
+
+#![tactic(auto)]
+
 ghost use Rattle.std.specs.Prelude.{◌≡◌, ◌+◌, ◌*◌, ◌≤◌, length, take, leb};
 ghost use Rattle.lists.specs.Lists.{front};
 ghost use Rattle.walks.specs.Flat.{flat};
@@ -24,7 +27,7 @@ fn few_required(header: Header, arcs: &[u32], marks: &[u8]) -> bool
 }
 
 // A sheet that was taken, by the five numbers in front of it, or the refusal, 3 to 13.
-#[derive(Drop)]
+#[derive(Clone, Copy)]
 pub enum SheetRead {
     Got(Header),
     Refused(u32),

@@ -1,4 +1,7 @@
 // The forced nodes and the required items of a sheet (document 01, 'The pass, in its order'; document 02, 2.3).
+
+#![tactic(auto)]
+
 ghost use Rattle.std.specs.Prelude.{◌≡◌, not, ◌&&◌, ◌+◌, ◌*◌, ◌≤◌, ◌<◌, length, get_or, set, eqb, ltb, leb};
 ghost use Rattle.lists.specs.Lists.{member};
 ghost use Rattle.sheet.specs.Sheet.{required, sheet_of, Sized};

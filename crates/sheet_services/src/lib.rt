@@ -1,4 +1,7 @@
 // The service minutes of a sheet (document 02, request 2.7): which form a sheet has, what stands behind its content, and what it adds to the arcs.
+
+#![tactic(auto)]
+
 ghost use Rattle.std.specs.Prelude.{◌≡◌, ◌*◌, ◌≤◌, length, take, drop};
 ghost use Rattle.lists.specs.Lists.{front};
 ghost use Rattle.walks.specs.Flat.{arcs_of, flat};

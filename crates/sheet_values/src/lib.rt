@@ -1,5 +1,8 @@
 // Numbers of a sheet, each judged as it is read, and the sections of the marks and of the service minutes (document 01, 'Sheet and slip'; document 02,
 // request 2.7).
+
+#![tactic(auto)]
+
 ghost use Rattle.std.specs.Prelude.{◌≡◌, ◌≤◌, length, drop, ltb};
 ghost use Rattle.lists.specs.Lists.{front};
 ghost use Rattle.varint.specs.Varint.{number};
@@ -15,7 +18,7 @@ use varint::Number;
 const MARKS_END: u32 = 3;
 
 // A number of the sheet that was judged: its value and the position after it, or the refusal.
-#[derive(Drop)]
+#[derive(Clone, Copy)]
 pub enum ValueRead {
     Got(u32, usize),
     Refused(u32),

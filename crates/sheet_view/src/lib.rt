@@ -1,4 +1,7 @@
 // The arc view, document 01's leg view ('The operations and what they refuse').
+
+#![tactic(auto)]
+
 ghost use Rattle.std.specs.Prelude.{◌≡◌, ◌+◌, ◌*◌, ◌≤◌, length, drop};
 ghost use Rattle.sheet.specs.ArcView.{arc_view, place_of};
 ghost use Rattle.sheet.specs.Reader.{past};

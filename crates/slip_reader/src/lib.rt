@@ -1,4 +1,7 @@
 // How a slip is written (document 01, 'Sheet and slip'): judged for check.
+
+#![tactic(auto)]
+
 ghost use Rattle.std.specs.Prelude.{◌≡◌, drop};
 ghost use Rattle.sheet.specs.Slip.{read_list, read_slip};
 ghost use Rattle.slip_reader.specs.Form.{list_of, ListCount, lists_of, slip_of, SlipCounts};
@@ -7,7 +10,7 @@ use numbers::SectionRead;
 use varint::Number;
 
 // A list in a slip: its count, where its numbers stand and the position after them; or the fault in its writing.
-#[derive(Drop)]
+#[derive(Clone, Copy)]
 pub enum ListRead {
     Got(u32, usize, usize),
     Refused(u32),
@@ -29,7 +32,7 @@ fn list_at(slip: &[u8], at: usize) -> ListRead
 }
 
 // A slip that is well written: its first number, how many goals and reasons it has and where they stand.
-#[derive(Drop)]
+#[derive(Clone, Copy)]
 pub struct SlipForm {
     pub first: u32,
     pub goals: u32,
@@ -39,7 +42,7 @@ pub struct SlipForm {
 }
 
 // A well written slip, or one that draws 17.
-#[derive(Drop)]
+#[derive(Clone, Copy)]
 pub enum SlipRead {
     Got(SlipForm),
     Refused,

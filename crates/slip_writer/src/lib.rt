@@ -1,4 +1,7 @@
 // The slip of a refused round or a struck item (document 01, 'Sheet and slip'): written for pass and reason.
+
+#![tactic(auto)]
+
 ghost use Rattle.std.specs.Prelude.{◌≡◌, true, ◌∷◌, ◌≤◌, length};
 ghost use Rattle.lists.specs.Lists.{Put};
 ghost use Rattle.varint.specs.Answer.{small};

@@ -5,7 +5,7 @@ use Rattle.varint.specs.Varint.{Read, got, refuse, after}
 use Rattle.sheet.specs.Page.{Page, sheet_on}
 use Rattle.sheet.specs.Sheet.{Sheet}
 use Rattle.sheet.specs.Slip.{Slip, read_slip}
-use Rattle.store_rules.specs.Shelf.{Nogood, Base, Shelf, base_of, fits_base, subsumes, nogood_of, Found, found, earliest}
+use Rattle.store_rules.specs.Shelf.{Nogood, Base, Shelf, base_of, fits_base, subsumes, nogood_of, Found, earliest}
 use Rattle.store_rules.specs.Store.{slip_items, entered, put_slip}
 use Rattle.store_slot.specs.declared.Slot.{Slot}
 use Rattle.store_slot.specs.Slot.{shown, empty_slot}

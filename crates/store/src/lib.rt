@@ -2,6 +2,8 @@
 // service minutes, start and finish.
 //
 // A program in C lends the store, so it may hold any numbers: no count in it is trusted, and every store shows some shelf (`shelf_of`).
+#![tactic(auto)]
+
 ghost use Rattle.std.specs.Prelude.{◌≡◌, false, ◌&&◌, ◌+◌, ◌*◌, ◌≤◌, ◌<◌, length, leb};
 ghost use Rattle.lists.specs.Lists.{any, front};
 ghost use Rattle.sheet.specs.Sheet.{sheet_of};
@@ -25,7 +27,7 @@ pub const SLOTS: usize = 64;
 // How many slips there are, earliest put first, and the map, start and finish that they are for: nodes, arcs, source, target; tail, head and weight of each
 // arc, where a weight is the arc's minutes and the service minutes of its head; and the service minutes of each node.
 #[repr(C)]
-#[derive(Drop)]
+#[derive(Clone, Copy)]
 pub struct Store {
     pub count: u32,
     pub nodes: u32,
@@ -38,14 +40,14 @@ pub struct Store {
 }
 
 // What put gives: the refusal number, 0 where it finished, and the store.
-#[derive(Drop)]
+#[derive(Clone, Copy)]
 pub struct Putting {
     pub number: u32,
     pub store: Store,
 }
 
 // What ask gives: the refusal number, 0 where it finished, and whether a slip applies, with the earliest put that does.
-#[derive(Drop)]
+#[derive(Clone, Copy)]
 pub struct Asked {
     pub number: u32,
     pub found: bool,
@@ -198,7 +200,8 @@ fn unchanged(store: Store, number: u32) -> Putting
 }
 
 // Puts a newcomer on the store: 22, another map, other service minutes, another source or target; nothing is changed where it is subsumed; 23, there is no
-// room.
+// room. A function of its own in the compiled code too, so that its stores are not on the stack while check runs.
+#[inline(never)]
 fn enter(store: Store, header: Header, arcs: &[u32], services: &[u32], slot: Slot) -> Putting
     requires arcs_len { (length arcs.now ≡ 3 * header.arcs) × (length services.now ≡ header.nodes) }
     requires nodes_bound { (header.nodes ≤ 64) × (header.arcs ≤ 512) × (header.source < 64) × (header.target < 64) }
@@ -222,7 +225,7 @@ fn enter(store: Store, header: Header, arcs: &[u32], services: &[u32], slot: Slo
 }
 
 // What a slip is before a store is looked at: the refusal, or 0 and the slot that is to be put.
-#[derive(Drop)]
+#[derive(Clone, Copy)]
 pub struct Newcomer {
     pub number: u32,
     pub slot: Slot,

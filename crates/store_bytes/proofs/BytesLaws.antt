@@ -156,12 +156,18 @@ module _ (K : Shelf) (sheet : List ℕ) {n : ℕ} {f : Found} (a : record { numb
 
     pub ask_none : n ≡ 0 → f ≡ missing → 1200 ≤ length slip → record { number = 0; slip = slip } ≡ ask_bytes K sheet slip
     unfolding ask_bytes ask_bytes_outcome
-    ask_none z q h = rw (le-ltb (length slip) 1200 h, (ask_finishes z).1, q)
+    ask_none z q h = let e = ask_finishes z in go e.0 e.1
+      where
+        go : (rest : List ℕ) → ask_on K sheet ≡ got f rest → record { number = 0; slip = slip } ≡ ask_bytes K sheet slip
+        go rest e = rw (le-ltb (length slip) 1200 h, e, q)
 
     pub ask_wrote : n ≡ 0 → (k : Nogood) → f ≡ found k → 1200 ≤ length slip → {r : ℕ} {out : List ℕ} → Put (slip_bytes (slip_of k)) slip out r
         → record { number = r; slip = out } ≡ ask_bytes K sheet slip
     unfolding ask_bytes ask_bytes_outcome
-    ask_wrote z k q h w = rw (le-ltb (length slip) 1200 h, (ask_finishes z).1, q, w.0, w.1)
+    ask_wrote z k q h {r} {out} w = let e = ask_finishes z in go e.0 e.1
+      where
+        go : (rest : List ℕ) → ask_on K sheet ≡ got f rest → record { number = r; slip = out } ≡ ask_bytes K sheet slip
+        go rest e = rw (le-ltb (length slip) 1200 h, e, q, w.0, w.1)
 
   -- a slip that was found names items alone
   pub ask_named : n ≡ 0 → (k : Nogood) → f ≡ found k → Named k

@@ -1,5 +1,7 @@
 // The store for a program in C, by value (document 02, request 2.6): put with the work lent as bytes, and ask with the slip written. What C calls is in the
-// crate `planner`.
+// crate `planner_c`.
+#![tactic(auto)]
+
 ghost use Rattle.std.specs.Prelude.{◌≡◌, ◌≤◌, length};
 ghost use Rattle.lists.specs.Lists.{Put};
 ghost use Rattle.sheet.specs.Slip.{slip_bytes};

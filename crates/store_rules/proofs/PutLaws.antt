@@ -12,7 +12,7 @@ use borrow.Author.Tests.{eqb-false, ne_eqb, ltb-true, leb-true, le-leb}
 use Rattle.lists.proofs.TestLaws.{and_true, true_and, not_true, false_back, pick_either}
 use Rattle.lists.specs.Lists.{pick, member, every, keep, any}
 use Rattle.varint.proofs.VarintLaws.{after_got, got_both}
-use Rattle.varint.specs.Varint.{Read, got, refuse, after, number}
+use Rattle.varint.specs.Varint.{Read, got, refuse, after}
 use Rattle.sheet.proofs.RefusalLaws.{AmongThese, these_fit, Refusing, after_refusing, page_refusing_these}
 use Rattle.sheet.proofs.SlipLaws.{slip_read}
 use Rattle.sheet.proofs.SheetLaws.{page_got}

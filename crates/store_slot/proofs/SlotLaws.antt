@@ -1,13 +1,13 @@
 -- Laws of a slot's lists: counts that are cut to the room there is take the same items. Assumes nothing.
 use Prim.Native.Nat.{ℕ, ◌+◌, ◌-◌, ◌≤◌, ◌<◌, min}
 use mathlib.Core.Path.{◌≡◌, refl, sym, ap, ap₂, ◌∙◌}
-use mathlib.Core.Bool.{Bool, true, false, not, ◌&&◌}
+use mathlib.Core.Bool.{Bool, true, false, ◌&&◌}
 use mathlib.Core.List.{List, ◌++◌, append_assoc}
 use native.Mathlib.Omega.{arith}
 use lib.ListN.{length, get_or, take, drop, length-take, length-drop, length-append}
 use lib.Seq.{take_at, drop_at, length-take-le}
 use lib.Dec.{eqb, leb}
-use borrow.Author.Tests.{not-true, not-false, lt-leb, le-leb, leb-true}
+use borrow.Author.Tests.{lt-leb, le-leb, leb-true}
 use Rattle.lists.proofs.FrontLaws.{take_least, drop_least, Room}
 use Rattle.lists.specs.Lists.{pick, member, every, subset, front}
 use Rattle.slip_reader.specs.Form.{slip_from}
@@ -72,15 +72,15 @@ last_fails true true e = sym e
 last_fails true false e = refl
 last_fails false b e = refl
 
-first_fails : {a r : Bool} (b : Bool) → r ≡ a → not r ≡ true → false ≡ (a && b)
-first_fails {a} b e q = let z : a ≡ false = sym e ∙ not-true _ q in rw z
+first_fails : {a r : Bool} (b : Bool) → r ≡ a → r ≡ false → false ≡ (a && b)
+first_fails {a} b e q = let z : a ≡ false = sym e ∙ q in rw z
 
 and_true_right : (b : Bool) → (b && true) ≡ b
 and_true_right true = refl
 and_true_right false = refl
 
-second_is : {a b c r s : Bool} → c ≡ true → r ≡ a → not r ≡ false → s ≡ b → s ≡ (a && (b && c))
-second_is {a} {b} {c} z e q f = let y : a ≡ true = sym e ∙ not-false _ q in rw (y, z, f) (sym (and_true_right b))
+second_is : {a b c r s : Bool} → c ≡ true → r ≡ a → r ≡ true → s ≡ b → s ≡ (a && (b && c))
+second_is {a} {b} {c} z e q f = let y : a ≡ true = sym e ∙ q in rw (y, z, f) (sym (and_true_right b))
 
 -- one subsumes the other, told so
 module _ (a b : Slot) where
@@ -93,11 +93,11 @@ module _ (a b : Slot) where
     unfolding subset
     goals_are = e ∙ ap₂ (λ (xs ys : List ℕ). every (λ x. member x ys) xs) u.goals v.goals
 
-    pub subsumes_goals : not r ≡ true → false ≡ subsumes (shown a) (shown b)
+    pub subsumes_goals : r ≡ false → false ≡ subsumes (shown a) (shown b)
     unfolding subsumes shown
     subsumes_goals q = first_fails (subset (reasons_in a) (reasons_in b) && leb b.limit a.limit) goals_are q
 
-    pub subsumes_reasons : not r ≡ false → b.limit ≤ a.limit → {s : Bool}
+    pub subsumes_reasons : r ≡ true → b.limit ≤ a.limit → {s : Bool}
         → s ≡ every (λ x. member x (take (m.reasons_end - m.goals_end) (drop m.goals_end m.items))) (take (l.reasons_end - l.goals_end) (drop l.goals_end l.items))
         → s ≡ subsumes (shown a) (shown b)
     unfolding subsumes shown subset
@@ -113,11 +113,11 @@ module _ (k : Slot) (marks : List ℕ) (limit : ℕ) where
     reasons_are : r ≡ every (λ x. eqb (get_or marks x 0) 2) (reasons_in k)
     reasons_are = e ∙ ap (every (λ x. eqb (get_or marks x 0) 2)) u.reasons
 
-    pub applies_reasons : not r ≡ true → false ≡ applies_by (shown k) marks limit
+    pub applies_reasons : r ≡ false → false ≡ applies_by (shown k) marks limit
     unfolding applies_by shown
     applies_reasons q = first_fails (every (λ x. eqb (get_or marks x 0) 1) (goals_in k) && leb limit k.limit) reasons_are q
 
-    pub applies_goals : not r ≡ false → limit ≤ k.limit → {s : Bool} → s ≡ every (λ x. eqb (get_or marks x 0) 1) (take l.goals_end l.items)
+    pub applies_goals : r ≡ true → limit ≤ k.limit → {s : Bool} → s ≡ every (λ x. eqb (get_or marks x 0) 1) (take l.goals_end l.items)
         → s ≡ applies_by (shown k) marks limit
     unfolding applies_by shown
     applies_goals q h f = second_is (le-leb limit k.limit h) reasons_are q (f ∙ ap (every (λ x. eqb (get_or marks x 0) 1)) u.goals)

@@ -1,6 +1,8 @@
 // A slot of the store: a shelved slip with its sheet's limit (document 02, request 2.6), and what is asked of it.
 //
 // A slot may hold any numbers, since a program in C lends the store: its counts are not trusted, and every slot shows some slip.
+#![tactic(auto)]
+
 ghost use Rattle.std.specs.Prelude.{◌≡◌, ◌++◌, ◌+◌, ◌≤◌, min, length};
 ghost use Rattle.lists.specs.Lists.{front};
 ghost use Rattle.slip_reader.specs.Form.{SlipCounts};
@@ -18,7 +20,7 @@ pub const SLOT_ITEMS: usize = 24;
 
 // A shelved slip: its first number, its sheet's limit, how many goals and reasons it has, and the items, goals first.
 #[repr(C)]
-#[derive(Drop)]
+#[derive(Clone, Copy)]
 pub struct Slot {
     pub first: u32,
     pub limit: u32,
@@ -66,7 +68,7 @@ fn indices(items: [u32; SLOT_ITEMS]) -> [usize; SLOT_ITEMS]
 }
 
 // The lists of a slot: the goals end, and the reasons behind them, at these places.
-#[derive(Drop)]
+#[derive(Clone, Copy)]
 pub struct SlotLists {
     pub goals_end: usize,
     pub reasons_end: usize,

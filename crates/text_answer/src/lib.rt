@@ -1,4 +1,6 @@
 // The lines of what the pass answers to a sheet (document 01, 'The sheet B and what it gives', last paragraph), and of a refusal.
+#![tactic(auto)]
+
 ghost use Rattle.std.specs.Prelude.{◌≡◌, true, ◌&&◌, ◌≤◌, ◌<◌, length, eqb};
 ghost use Rattle.lists.specs.Lists.{Put};
 ghost use Rattle.varint.specs.Answer.{small};

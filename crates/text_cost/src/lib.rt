@@ -1,4 +1,6 @@
 // What the tool prints for an item number and a sheet (document 02, request 2.4).
+#![tactic(auto)]
+
 ghost use Rattle.std.specs.Prelude.{◌≡◌, [], ◌∷◌, ◌+◌, ◌≤◌, ◌<◌, length, take};
 ghost use Rattle.lists.specs.Lists.{Put};
 ghost use Rattle.sheet.specs.Answer.{finished, answer_of};

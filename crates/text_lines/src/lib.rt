@@ -1,4 +1,6 @@
 // Lines of text, written over the front of a lent slice: a word and decimal numbers behind it, or a number alone.
+#![tactic(auto)]
+
 ghost use Rattle.std.specs.Prelude.{◌≡◌, true, ◌≤◌, length};
 ghost use Rattle.lists.specs.Lists.{Put};
 ghost use Rattle.varint.specs.Answer.{small};

@@ -1,4 +1,6 @@
 // What the program prints for a sheet (document 01, 'The sheet B and what it gives', last paragraph).
+#![tactic(auto)]
+
 ghost use Rattle.std.specs.Prelude.{◌≡◌, [], ◌≤◌, ◌<◌, length, take};
 ghost use Rattle.lists.specs.Lists.{front, Put};
 ghost use Rattle.sheet.specs.Answer.{finished};

@@ -1,4 +1,6 @@
 // Numbers in groups of seven bits, lowest group first (document 01, 'Sheet and slip'): read and written.
+#![tactic(auto)]
+
 ghost use Rattle.std.specs.Prelude.{◌≡◌, ◌+◌, ◌≤◌, ◌<◌, length, drop};
 ghost use Rattle.lists.specs.Lists.{Put};
 ghost use Rattle.varint.specs.Varint.{read_number, write_number};
@@ -6,7 +8,7 @@ ghost use Rattle.varint.specs.Answer.{read_of, end_of};
 
 // The number that stands at a position: its value and the position after it; the bytes end first (3); more than four groups or a needless last group
 // of zero (4).
-#[derive(Drop)]
+#[derive(Clone, Copy)]
 pub enum Number {
     Got(u32, usize),
     Ends,

@@ -1,5 +1,8 @@
 // The work that an operation is lent, as numbers or as bytes, what a call leaves in it, and what it answers (document 01, 'The operations and what they
 // refuse').
+
+#![tactic(auto)]
+
 ghost use Rattle.std.specs.Prelude.{◌≡◌, ◌+◌, ◌*◌, ◌≤◌, length};
 ghost use Rattle.sheet.specs.Lent.{work_numbers, zeroed};
 ghost use Rattle.work.specs.Bytes.{work_bytes, zeroed_bytes};
@@ -15,7 +18,7 @@ pub const WORK_BYTES: usize = 65536;
 const LAST_UNTOUCHED: u32 = 13;
 
 // What every call that writes into one slice answers: the refusal number, 0 where it finished, and the length of what it wrote there.
-#[derive(Drop)]
+#[derive(Clone, Copy)]
 pub struct Answer {
     pub number: u32,
     pub length: usize,

@@ -1,0 +1,35 @@
+-- `pass_marks::new_mark` meets its contract, case by case. Assumes nothing.
+use mathlib.Core.Path.{refl, sym, ◌∙◌}
+use mathlib.Core.Bool.{true, false}
+use borrow.Author.Tests.{eq-eqb, ne_eqb}
+use Rattle.sheet.proofs.MarkLaws.{arc_free}
+use Rattle.sheet.specs.Sheet.{mark_of, sheet_of}
+use Rattle.sheet_required.proofs.RequiredLaws.{forced_one}
+use Rattle.pass_marks.proofs.MarkingLaws.{mark_kept, mark_pruned, mark_open}
+use Rattle.pass_marks.proofs.new_mark.Goals as goal
+
+pub returns-then-mark-ne-OPEN : goal.returns-then-mark-ne-OPEN
+unfolding mark_of
+returns-then-mark-ne-OPEN c = mark_kept (sheet_of c.args.header c.args.arcs.now c.args.marks.now) c.args.item _ refl c.if-mark-ne-OPEN.true
+
+pub returns-then-not-fits_item : goal.returns-then-not-fits_item
+unfolding mark_of
+returns-then-not-fits_item c = mark_pruned (sheet_of c.args.header c.args.arcs.now c.args.marks.now) c.args.item c.if-mark-ne-OPEN.false (sym c.fits_item.ensures ∙ c.if-not-fits_item.true)
+
+pub returns-then-forced-item-eq1 : goal.returns-then-forced-item-eq1
+unfolding mark_of
+returns-then-forced-item-eq1 c =
+    mark_open (sheet_of c.args.header c.args.arcs.now c.args.marks.now) c.args.item 1 true c.if-mark-ne-OPEN.false (sym c.fits_item.ensures ∙ c.if-not-fits_item.false)
+    (sym (forced_one (sheet_of c.args.header c.args.arcs.now c.args.marks.now) c.requires.forced_nodes c.requires.rows.0.whole.proper.few c.args.item c.if-item-header.true) ∙ eq-eqb _ 1 c.if-forced-item-eq1.true) refl
+
+pub returns-else-forced-item-eq1 : goal.returns-else-forced-item-eq1
+unfolding mark_of
+returns-else-forced-item-eq1 c =
+    mark_open (sheet_of c.args.header c.args.arcs.now c.args.marks.now) c.args.item 0 false c.if-mark-ne-OPEN.false (sym c.fits_item.ensures ∙ c.if-not-fits_item.false)
+    (sym (forced_one (sheet_of c.args.header c.args.arcs.now c.args.marks.now) c.requires.forced_nodes c.requires.rows.0.whole.proper.few c.args.item c.if-item-header.true) ∙ ne_eqb _ 1 c.if-forced-item-eq1.false) refl
+
+pub returns-else-item-header : goal.returns-else-item-header
+unfolding mark_of
+returns-else-item-header c =
+    mark_open (sheet_of c.args.header c.args.arcs.now c.args.marks.now) c.args.item 0 false c.if-mark-ne-OPEN.false (sym c.fits_item.ensures ∙ c.if-not-fits_item.false)
+    (arc_free (sheet_of c.args.header c.args.arcs.now c.args.marks.now) c.args.item c.if-item-header.false) refl

@@ -1,0 +1,57 @@
+-- `row_reopen::mend_kept` meets its contract: a row of which the arc can cut no entry is left, and else it is kept before it is mended. Assumes nothing.
+use Prim.Native.Nat.{ℕ, ◌+◌, ◌*◌, ◌-◌}
+use mathlib.Core.Path.{◌≡◌, refl, sym, ap, ◌∙◌}
+use native.Mathlib.Omega.{arith}
+use borrow.Rule.Slice.PartMut.{mid_len, post_of}
+use lib.ListN.{length, drop, take, length-drop}
+use lib.Seq.{length-take-le, take_all}
+use Rattle.row_reopen.specs.Openings.{left, mended}
+use Rattle.row_reopen.proofs.SavesLaws.{part_row, row_kept, row_there, row_written}
+use mathlib.Core.List.{List}
+use Rattle.row_reopen.proofs.mend_kept.Goals as goal
+
+-- all that lies behind where the chains begin
+all-behind : (packed : List ℕ) → take (length packed - 1536) (drop 1536 packed) ≡ drop 1536 packed
+all-behind packed = take_all (length packed - 1536) (drop 1536 packed) (omega (arith, length-drop 1536 packed))
+
+pub returns-then-not-may_cut : goal.returns-then-not-may_cut
+returns-then-not-may_cut c =
+    let s = c in
+    let i = s.args.row.number in
+    let t = rw (part_row s.args.work.now i) at c.may_cut.ensures in
+    let f = t.0 c.if-not-may_cut.true in
+    record { fact = left f.0 f.1; fact_2 = (λ N A h M k. k f.0 f.1, λ v a. refl) }
+
+pub slice_bounds-mend_row-end : goal.slice_bounds-mend_row-end
+slice_bounds-mend_row-end c = let s = c in sym (length-take-le (s.args.row.count * 3) s.args.packed.now (omega (arith, s.requires.shaped.0.room, s.requires.shaped.0.long)))
+
+pub mend_row-requires : goal.mend_row-requires
+mend_row-requires c =
+    let s = c in
+    let i = s.args.row.number in
+    let packed = s.args.packed.now in
+    let mid = c.keep_row.new.work in record {
+      joins = (s.requires.shaped.0.joins, rw (all-behind packed) s.requires.shaped.0.chained);
+      row_len = (mid_len (i * 64) (i * 64 + 64) mid (omega (arith, c.keep_row.auto.work)) ∙ omega arith, s.requires.from_bound.0, s.requires.from_bound.1, s.requires.from_bound.2);
+    }
+
+pub returns : goal.returns
+returns c =
+    let s = c in
+    let i = s.args.row.number in
+    let at = i * 64 in
+    let mid = c.keep_row.new.work in
+    let t = c.mend_row in
+    let ys = t.new.row in
+    let zs = post_of at (at + 64 - at) mid in
+    let k : at + 64 - at ≡ 64 = omega arith in
+    let long : length mid ≡ 3648 = c.keep_row.auto.work ∙ s.requires.shaped.2 in
+    let size : length ys ≡ 64 = t.auto.row ∙ mid_len at (at + 64) mid (omega arith) ∙ k in
+    let rest : zs ≡ drop 64 (drop at mid) = ap (λ (m : ℕ). drop m (drop at mid)) k in
+    let P = c.keep_row.ensures in
+    let w = row_written i s.args.work.now mid ys zs s.requires.shaped.1 s.requires.shaped.2 long size rest P in
+    let e = row_there i s.args.work.now mid ys zs s.requires.shaped.1 s.requires.shaped.2 long size rest P in
+    let f = rw (part_row s.args.work.now i) at c.may_cut.ensures in record {
+      fact = mended (f.1 c.if-not-may_cut.false) (row_kept i s.args.work.now mid ys zs s.requires.shaped.1 s.requires.shaped.2 long size rest P);
+      fact_2 = (λ N A h M _. rw w (t.ensures.0 N A (rw e h) (rw e M)), rw (w, ← e) t.ensures.1);
+    }

@@ -1,0 +1,27 @@
+-- `put_sheet` writes the content alone where no node has service minutes, else the form with them. Assumes nothing.
+use mathlib.Core.Path.{sym, ◌∙◌}
+use Rattle.sheet.specs.Draft.{Draft, draft_of}
+use Rattle.sheet_writer.proofs.DraftLaws.{plain_form, served_form}
+use Rattle.sheet_writer.proofs.put_sheet.Goals as goal
+
+pub put_content-requires : goal.put_content-requires
+put_content-requires c =
+    let d : Draft = draft_of c.args.header c.args.arcs.now c.args.marks.now c.args.services.now in
+    let plain = plain_form d (sym c.no_service.ensures ∙ c.if-no_service.true) in
+    record { by_index = (_, c.requires.services_value); marks_in_bounds = rw plain at c.requires.services_in_bounds }
+
+pub returns-then-no_service : goal.returns-then-no_service
+returns-then-no_service c =
+    let d : Draft = draft_of c.args.header c.args.arcs.now c.args.marks.now c.args.services.now in
+    rw (plain_form d (sym c.no_service.ensures ∙ c.if-no_service.true)) c.put_content.ensures
+
+pub put_served-requires : goal.put_served-requires
+put_served-requires c =
+    let d : Draft = draft_of c.args.header c.args.arcs.now c.args.marks.now c.args.services.now in
+    let served = served_form d (sym c.no_service.ensures ∙ c.if-no_service.false) in
+    record { services_value = c.requires.services_value; services_in_bounds = rw served at c.requires.services_in_bounds }
+
+pub returns : goal.returns
+returns c =
+    let d : Draft = draft_of c.args.header c.args.arcs.now c.args.marks.now c.args.services.now in
+    rw (served_form d (sym c.no_service.ensures ∙ c.if-no_service.false)) c.put_served.ensures

@@ -1,0 +1,40 @@
+-- `write_slip` writes the first number, the goals behind it and the reasons behind those. Assumes nothing.
+use mathlib.Core.List.{◌++◌}
+use native.Mathlib.Omega.{arith}
+use Rattle.lists.proofs.FrontLaws.{Room, room_before, first_fits, put_within, put_room, put_end, put_on_lem}
+use Rattle.varint.specs.Varint.{write_number}
+use Rattle.slip_reader.specs.Form.{list_bytes}
+use Rattle.slip_reader.proofs.FormLaws.{slip_parts, small_parts}
+use Rattle.slip_writer.proofs.write_slip.Goals as goal
+use Rattle.slip_writer.proofs.write_slip.Goals.{Start}
+
+reasons-room :
+    (s : goal.Start) → Room (write_number s.args.first ++ list_bytes s.args.goals.now) (list_bytes s.args.reasons.now) s.args.slip.now
+reasons-room s = record { fits = rw (slip_parts s.args.first s.args.goals.now s.args.reasons.now) at s.requires.reasons_in_bounds }
+
+goals-room : (s : goal.Start) → Room (write_number s.args.first) (list_bytes s.args.goals.now) s.args.slip.now
+goals-room s = room_before (reasons-room s)
+
+pub put_number-at-requires : goal.put_number-at-requires
+put_number-at-requires c = ((small_parts _ _ _ c.requires.reasons_value).0, first_fits (goals-room (goal.at.put_number-at-requires c).Start))
+
+pub slice_bounds-put_goals-count : goal.slice_bounds-put_goals-count
+slice_bounds-put_goals-count c = put_within (goals-room (goal.at.slice_bounds-put_goals-count c).Start) c.put_number-at.ensures
+
+pub put_goals-requires : goal.put_goals-requires
+put_goals-requires c = ((small_parts _ _ _ c.requires.reasons_value).1, put_room (goals-room (goal.at.put_goals-requires c).Start) c.put_number-at.ensures)
+
+pub overflow_add-end : goal.overflow_add-end
+overflow_add-end c = omega (arith, put_end (goals-room (goal.at.overflow_add-end c).Start) c.put_number-at.ensures c.put_goals.ensures)
+
+pub slice_bounds-put_reasons-count : goal.slice_bounds-put_reasons-count
+slice_bounds-put_reasons-count c = put_within (reasons-room (goal.at.slice_bounds-put_reasons-count c).Start) (put_on_lem (goals-room (goal.at.slice_bounds-put_reasons-count c).Start) c.put_number-at.ensures c.put_goals.ensures)
+
+pub put_reasons-requires : goal.put_reasons-requires
+put_reasons-requires c = ((small_parts _ _ _ c.requires.reasons_value).2, put_room (reasons-room (goal.at.put_reasons-requires c).Start) (put_on_lem (goals-room (goal.at.put_reasons-requires c).Start) c.put_number-at.ensures c.put_goals.ensures))
+
+pub overflow_add-result : goal.overflow_add-result
+overflow_add-result c = omega (arith, put_end (reasons-room (goal.at.overflow_add-result c).Start) (put_on_lem (goals-room (goal.at.overflow_add-result c).Start) c.put_number-at.ensures c.put_goals.ensures) c.put_reasons.ensures)
+
+pub returns : goal.returns
+returns c = rw (slip_parts c.args.first c.args.goals.now c.args.reasons.now) (put_on_lem (reasons-room (goal.at.returns c).Start) (put_on_lem (goals-room (goal.at.returns c).Start) c.put_number-at.ensures c.put_goals.ensures) c.put_reasons.ensures)
