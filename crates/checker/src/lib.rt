@@ -27,8 +27,8 @@ fn answer_lists(
     form: SlipForm,
     scratch: &mut [u32],
 ) -> CheckAnswer
-    requires whole { Whole header arcs.now marks.now × (3072 ≤ length scratch.old) × SlipCounts slip.now (Got form) }
-    requires goals_bound { (form.goals ≤ 8) × (form.reasons ≤ header.nodes + header.arcs) }
+    requires sheet_and_slip_whole { Whole header arcs.now marks.now × (3072 ≤ length scratch.old) × SlipCounts slip.now (Got form) }
+    requires lists_short { (form.goals ≤ 8) × (form.reasons ≤ header.nodes + header.arcs) }
     ensures { let S = sheet_of header arcs.now marks.now in
         result ≡ check_answer_of (judged_on S (form_of slip.now form) []) }
 {

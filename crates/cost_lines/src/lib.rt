@@ -67,8 +67,8 @@ fn put_opened(
     list: &[usize],
     opened: usize,
 ) -> usize
-    requires mapped { Mapped header arcs.now × (item < header.nodes + header.arcs) × Markable list.now × (opened < 576) }
-    requires opened_in_bounds { length (opened_line (sheet_of header arcs.now []) item list.now opened) ≤ length out.old }
+    requires mapped_items { Mapped header arcs.now × (item < header.nodes + header.arcs) × Markable list.now × (opened < 576) }
+    requires line_fits { length (opened_line (sheet_of header arcs.now []) item list.now opened) ≤ length out.old }
     ensures { let S = sheet_of header arcs.now [] in
         Put (opened_line S item list.now opened) out.old out.new result }
 {
@@ -82,8 +82,8 @@ fn put_opened(
 
 // Writes such a line for each of the listed closures, in the list's order.
 fn put_openings(out: &mut [u8], header: Header, arcs: &[u32], item: usize, list: &[usize]) -> usize
-    requires mapped { Mapped header arcs.now × (item < header.nodes + header.arcs) × Markable list.now }
-    requires list_in_bounds { length (lines (opened_line (sheet_of header arcs.now []) item list.now) list.now) ≤ length out.old }
+    requires mapped_items { Mapped header arcs.now × (item < header.nodes + header.arcs) × Markable list.now }
+    requires lines_fit { length (lines (opened_line (sheet_of header arcs.now []) item list.now) list.now) ≤ length out.old }
     ensures { let one = opened_line (sheet_of header arcs.now []) item list.now in
         Put (lines one list.now) out.old out.new result }
 {
@@ -105,8 +105,8 @@ pub fn put_cost(
     item: usize,
     list: &[usize],
 ) -> usize
-    requires whole { Whole header arcs.now marks.now × (item < header.nodes + header.arcs) × Markable list.now }
-    requires list_in_bounds { length (cost_lines (sheet_of header arcs.now marks.now) item list.now) ≤ length out.old }
+    requires whole_and_markable { Whole header arcs.now marks.now × (item < header.nodes + header.arcs) × Markable list.now }
+    requires lines_fit { length (cost_lines (sheet_of header arcs.now marks.now) item list.now) ≤ length out.old }
     ensures { let S = sheet_of header arcs.now marks.now in
         Put (cost_lines S item list.now) out.old out.new result }
 {

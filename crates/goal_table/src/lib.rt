@@ -77,8 +77,8 @@ pub fn reach(work: &[u32], set: u32, node: usize, cap: u32) -> u32
 // without the goal.
 pub fn put(work: &mut [u32], set: u32, i: usize, cap: u32)
     requires { SetFits set work.old × (has set i ≡ true) × (cap < missing) }
-    ensures puts { Puts cap set i work.old work.new }
-    ensures table_only { TableOnly work.old work.new }
+    ensures goal_done { Puts cap set i work.old work.new }
+    ensures outside_table_unchanged { TableOnly work.old work.new }
 {
     let rest = set - bit(i);
     let at = work[ENTRIES + i] as usize;

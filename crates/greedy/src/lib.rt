@@ -45,8 +45,8 @@ fn put_down(list: &mut [u32], count: usize, item: usize, listed: bool) -> usize
 
 // Where the rows start, and behind that the goals.
 fn places_of(query: Query, arcs: &[u32], goals: &[usize]) -> [usize; PLACES]
-    requires joins { Joins query.nodes arcs.now × (query.from < query.nodes) × (length goals.now ≤ 8) }
-    requires by_index { (i : ℕ) → i < length goals.now → get_or goals.now i 0 < query.nodes + arc_count arcs.now }
+    requires arcs_join_nodes { Joins query.nodes arcs.now × (query.from < query.nodes) × (length goals.now ≤ 8) }
+    requires goals_are_items { (i : ℕ) → i < length goals.now → get_or goals.now i 0 < query.nodes + arc_count arcs.now }
     ensures { let G = graph_of query.nodes arcs.now in
         Placed G query.from goals.now (length goals.now) result }
 {
@@ -72,9 +72,9 @@ fn fill_list(
     work: &mut [u32],
     list: &mut [u32],
 ) -> usize
-    requires fact { let N = net_of query.nodes arcs.now marks.old in Proper N × GoalsFit N goals.now × (length arcs.now ≤ 1536) }
+    requires proper_net_and_goals { let N = net_of query.nodes arcs.now marks.old in Proper N × GoalsFit N goals.now × (length arcs.now ≤ 1536) }
     requires listable { Listable query arcs.now work.old list.old }
-    requires fact_2 { let N = net_of query.nodes arcs.now marks.old in
+    requires no_walk_fits { let N = net_of query.nodes arcs.now marks.old in
         Stuck N query.from query.to query.cap goals.now work.old }
     ensures { let N = net_of query.nodes arcs.now marks.old in
         Put (reasons_in N query.from query.to query.cap goals.now) list.old list.new result }
@@ -119,10 +119,10 @@ pub fn list_reasons(
     work: &mut [u32],
     list: &mut [u32],
 ) -> usize
-    requires fact { let N = net_of query.nodes arcs.now marks.now in
+    requires proper_net_and_goals { let N = net_of query.nodes arcs.now marks.now in
         Proper N × GoalsFit N goals.now × (length arcs.now ≤ 1536) × (length marks.now ≤ 576) }
     requires listable { Listable query arcs.now work.old list.old }
-    requires fact_2 { let N = net_of query.nodes arcs.now marks.now in
+    requires no_walk_fits { let N = net_of query.nodes arcs.now marks.now in
         Stuck N query.from query.to query.cap goals.now work.old }
     ensures { let N = net_of query.nodes arcs.now marks.now in
         Put (reasons_in N query.from query.to query.cap goals.now) list.old list.new result }

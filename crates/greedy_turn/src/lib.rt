@@ -18,13 +18,13 @@ use walks::{FORBIDDEN, OPEN};
 
 // Whether some walk meets the goals within the limit, by the rows in the work.
 fn fits_limit(query: Query, arcs: &[u32], marks: &[u8], goals: &[usize], work: &mut [u32]) -> bool
-    requires fact { let N = net_of query.nodes arcs.now marks.now in Proper N × GoalsFit N goals.now }
-    requires in_bounds { (3072 ≤ length work.old) × (query.to < query.nodes) × (query.cap < missing) }
-    ensures fact_2 { let N = net_of query.nodes arcs.now marks.now in
+    requires proper_net_and_goals { let N = net_of query.nodes arcs.now marks.now in Proper N × GoalsFit N goals.now }
+    requires work_and_query_fit { (3072 ≤ length work.old) × (query.to < query.nodes) × (query.cap < missing) }
+    ensures tells_whether_fits { let N = net_of query.nodes arcs.now marks.now in
         Told N query.from query.to query.cap goals.now work.old result }
-    ensures fact_3 { let N = net_of query.nodes arcs.now marks.now in
+    ensures goals_noted { let N = net_of query.nodes arcs.now marks.now in
         NotedBeside N query.cap goals.now work.old work.new }
-    ensures work_unchanged { drop 3072 work.new ≡ drop 3072 work.old }
+    ensures kept_rows_unchanged { drop 3072 work.new ≡ drop 3072 work.old }
 {
     let nodes = query.nodes;
     let to = query.to;
@@ -51,13 +51,13 @@ fn stays_open(
     goals: &[usize],
     work: &mut [u32],
 ) -> bool
-    requires fact { let N = net_of query.nodes arcs.now marks.now in Proper N × GoalsFit N goals.now }
-    requires work_len { (length work.old ≡ scratch_numbers) × (query.to < query.nodes) × (query.cap < missing) × (kept.rows ≤ 9) }
-    ensures fact_2 { let N = net_of query.nodes arcs.now marks.now in
+    requires proper_net_and_goals { let N = net_of query.nodes arcs.now marks.now in Proper N × GoalsFit N goals.now }
+    requires work_and_query_fit { (length work.old ≡ scratch_numbers) × (query.to < query.nodes) × (query.cap < missing) × (kept.rows ≤ 9) }
+    ensures tells_whether_blocked { let N = net_of query.nodes arcs.now marks.now in
         Told N query.from query.to query.cap goals.now work.old (not result) }
-    ensures fact_3 { let N = net_of query.nodes arcs.now marks.now in
+    ensures goals_noted_if_open { let N = net_of query.nodes arcs.now marks.now in
         (result ≡ true → NotedBeside N query.cap goals.now work.old work.new) }
-    ensures rows_back { result ≡ false → RowsBack work.old kept.rows kept.bits work.new }
+    ensures rows_back_if_not { result ≡ false → RowsBack work.old kept.rows kept.bits work.new }
 {
     if fits_limit(query, arcs, marks, goals, work) {
         row_save::put_back(work, kept.rows, kept.bits);
@@ -86,10 +86,10 @@ pub struct TurnEnd {
 
 // Whether a walk may fit now that the item is open: it is a goal, or an entry that matters is another.
 fn may_fit(turn: Turn, kept: KeptRows, goals: &[usize], work: &[u32]) -> bool
-    requires work_len { (length work.now ≡ scratch_numbers) × (kept.rows ≤ 9) × (turn.to < 64) }
-    requires goals_len_bound { (length goals.now ≤ 8) × Entered (length goals.now) work.now }
-    ensures goals_value { result ≡ false → member turn.item goals.now ≡ false }
-    ensures unmoved { result ≡ false → Unmoved work.now kept.rows kept.bits (length goals.now) turn.to }
+    requires work_and_turn_fit { (length work.now ≡ scratch_numbers) × (kept.rows ≤ 9) × (turn.to < 64) }
+    requires goals_entered { (length goals.now ≤ 8) × Entered (length goals.now) work.now }
+    ensures not_a_goal_if_false { result ≡ false → member turn.item goals.now ≡ false }
+    ensures unmoved_if_false { result ≡ false → Unmoved work.now kept.rows kept.bits (length goals.now) turn.to }
 {
     if lists::is_listed(turn.item, goals) {
         return true;
@@ -138,9 +138,9 @@ fn blocked(
 
 // The linked arcs once the item of the turn is closed again, with `count` of them linked while it was open.
 fn link_closed(turn: Turn, count: usize, arcs: &[u32], marks: &[u8], packed: &mut [u32]) -> usize
-    requires fact { let N = net_of turn.nodes arcs.now marks.now in
+    requires proper_and_shaped { let N = net_of turn.nodes arcs.now marks.now in
         Proper N × (length arcs.now ≤ 1536) × Shaped count packed.old × (turn.count ≤ 512) }
-    requires fact_2 { let N = net_of turn.nodes arcs.now marks.now in
+    requires linked_but_for_last { let N = net_of turn.nodes arcs.now marks.now in
         (turn.nodes ≤ turn.item → count ≡ turn.count + 1 → Linked N turn.count (taken_off packed.old turn.count)) }
     ensures { Linked (net_of turn.nodes arcs.now marks.now) result packed.new }
 {
@@ -164,13 +164,13 @@ pub fn take_turn(
     places: &[usize],
     work: &mut [u32],
 ) -> TurnEnd
-    requires fact { let T = task_of turn.nodes arcs.now turn.to turn.cap turn.rows places.now in
+    requires setting_holds { let T = task_of turn.nodes arcs.now turn.to turn.cap turn.rows places.now in
         Setting T × (turn.item < task_items T) × (turn.rows ≤ length places.now) }
-    requires fact_2 { let T = task_of turn.nodes arcs.now turn.to turn.cap turn.rows places.now in
+    requires state_before { let T = task_of turn.nodes arcs.now turn.to turn.cap turn.rows places.now in
         State T marks.old packed.old turn.count work.old }
-    ensures fact_3 { let T = task_of turn.nodes arcs.now turn.to turn.cap turn.rows places.now in
+    ensures item_turned { let T = task_of turn.nodes arcs.now turn.to turn.cap turn.rows places.now in
         Turned T marks.old turn.item marks.new result.listed }
-    ensures fact_4 { let T = task_of turn.nodes arcs.now turn.to turn.cap turn.rows places.now in
+    ensures state_after { let T = task_of turn.nodes arcs.now turn.to turn.cap turn.rows places.now in
         State T marks.new packed.new result.count work.new }
 {
     let nodes = turn.nodes;

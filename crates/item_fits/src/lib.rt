@@ -68,10 +68,10 @@ pub fn fits_goals(
     scratch: &mut [u32],
 ) -> bool
     requires { Sought header arcs.now marks.now goals.now × (3072 ≤ length scratch.old) }
-    ensures result_value { let G = graph_of header.nodes arcs.now in
+    ensures tells_whether_fits { let G = graph_of header.nodes arcs.now in
         let closed = closed_in marks.now in
         result ≡ fits G header.source header.target header.limit closed goals.now }
-    ensures fact { let N = net_of header.nodes arcs.now marks.now in
+    ensures rows_filled { let N = net_of header.nodes arcs.now marks.now in
         Rowed N header.limit header.source goals.now scratch.new }
 {
     let query = query_of(header);

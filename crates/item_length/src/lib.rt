@@ -12,9 +12,9 @@ use rows::ROW_LENGTH;
 
 // The least length of a walk that meets the item, clear of the forbidden items: to its entry, over it, and on from its exit. MISSING above the cap.
 pub fn least_through(query: Query, arcs: &[u32], marks: &[u8], item: usize) -> u32
-    requires fact { let N = net_of query.nodes arcs.now marks.now in
+    requires proper_net_and_item { let N = net_of query.nodes arcs.now marks.now in
         Proper N × (length arcs.now ≤ 1536) × (item < query.nodes + arc_count arcs.now) }
-    requires from_lt_nodes { (query.from < query.nodes) × (query.to < query.nodes) × (query.cap < missing) }
+    requires query_in_range { (query.from < query.nodes) × (query.to < query.nodes) × (query.cap < missing) }
     ensures { let G = graph_of query.nodes arcs.now in
         result ≡ held query.cap (least G (closed_in marks.now) (item ∷ []) query.from query.to) }
 {

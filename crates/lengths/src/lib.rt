@@ -23,8 +23,8 @@ pub struct Query {
 
 // Writes where the rows start: at `from`, and where each goal is left.
 pub fn set_starts(nodes: usize, arcs: &[u32], from: usize, goals: &[usize], starts: &mut [usize])
-    requires joins { Joins nodes arcs.now × (length goals.now < length starts.old) × (from < nodes) }
-    requires by_index { (i : ℕ) → i < length goals.now → get_or goals.now i 0 < nodes + arc_count arcs.now }
+    requires arcs_join_nodes { Joins nodes arcs.now × (length goals.now < length starts.old) × (from < nodes) }
+    requires goals_are_items { (i : ℕ) → i < length goals.now → get_or goals.now i 0 < nodes + arc_count arcs.now }
     ensures { StartsAre (graph_of nodes arcs.now) from goals.now starts.new }
 {
     starts[0] = from;
@@ -46,7 +46,7 @@ pub fn note_goals(
 )
     requires { let N = net_of nodes arcs.now marks.now in Proper N × GoalsFit N goals.now × (592 ≤ length work.old) }
     ensures noted { Noted (net_of nodes arcs.now marks.now) cap goals.now work.new }
-    ensures work_unchanged { (take 576 work.new ≡ take 576 work.old) × (drop 592 work.new ≡ drop 592 work.old) }
+    ensures only_notes_written { (take 576 work.new ≡ take 576 work.old) × (drop 592 work.new ≡ drop 592 work.old) }
 {
     let mut i = 0;
     while i < goals.len() {
@@ -60,7 +60,7 @@ pub fn note_goals(
 fn fill_set(work: &mut [u32], set: u32, cap: u32)
     requires { SetFits set work.old × (cap < missing) }
     ensures fills_set { FillsSet cap set work.old work.new }
-    ensures table_only { TableOnly work.old work.new }
+    ensures outside_table_unchanged { TableOnly work.old work.new }
 {
     let mut rest = set;
     while rest != 0 {
@@ -74,7 +74,7 @@ fn fill_set(work: &mut [u32], set: u32, cap: u32)
 pub fn fill_table(work: &mut [u32], count: usize, cap: u32)
     requires { TableFits count work.old × (cap < missing) }
     ensures fills_table { FillsTable cap count work.old work.new }
-    ensures table_only { TableOnly work.old work.new }
+    ensures outside_table_unchanged { TableOnly work.old work.new }
 {
     let end = goal_table::bit(count);
     let mut set: u32 = 0;
@@ -97,11 +97,11 @@ pub fn reach_goals(work: &[u32], count: usize, to: usize, cap: u32) -> u32
 
 // Fills the rows: from the source, and from where each goal is left.
 pub fn start_rows(query: Query, arcs: &[u32], marks: &[u8], goals: &[usize], work: &mut [u32])
-    requires fact { let N = net_of query.nodes arcs.now marks.now in Proper N × GoalsFit N goals.now × (length arcs.now ≤ 1536) }
-    requires in_bounds { (3072 ≤ length work.old) × (query.from < query.nodes) × (query.cap < missing) }
-    ensures fact_2 { let N = net_of query.nodes arcs.now marks.now in
+    requires proper_net_and_goals { let N = net_of query.nodes arcs.now marks.now in Proper N × GoalsFit N goals.now × (length arcs.now ≤ 1536) }
+    requires work_and_query_fit { (3072 ≤ length work.old) × (query.from < query.nodes) × (query.cap < missing) }
+    ensures rows_filled { let N = net_of query.nodes arcs.now marks.now in
         Rowed N query.cap query.from goals.now work.new }
-    ensures work_unchanged { drop 576 work.new ≡ drop 576 work.old }
+    ensures behind_rows_unchanged { drop 576 work.new ≡ drop 576 work.old }
 {
     let mut packed = [0u32; ARC_NUMBERS];
     let used = row_arcs::pack(query.nodes, arcs, marks, &mut packed);
@@ -114,13 +114,13 @@ pub fn start_rows(query: Query, arcs: &[u32], marks: &[u8], goals: &[usize], wor
 // The least length of a walk from `from` to `to`, clear of the forbidden items, that meets all goals; MISSING where there is none of at most
 // `cap`. The rows are left in the work; its first 3072 numbers are overwritten, the rest stays.
 pub fn least(query: Query, arcs: &[u32], marks: &[u8], goals: &[usize], work: &mut [u32]) -> u32
-    requires fact { let N = net_of query.nodes arcs.now marks.now in Proper N × GoalsFit N goals.now × (length arcs.now ≤ 1536) }
-    requires in_bounds { (3072 ≤ length work.old) × (query.from < query.nodes) × (query.to < query.nodes) × (query.cap < missing) }
-    ensures result_value { let G = graph_of query.nodes arcs.now in
+    requires proper_net_and_goals { let N = net_of query.nodes arcs.now marks.now in Proper N × GoalsFit N goals.now × (length arcs.now ≤ 1536) }
+    requires work_and_query_fit { (3072 ≤ length work.old) × (query.from < query.nodes) × (query.to < query.nodes) × (query.cap < missing) }
+    ensures least_length { let G = graph_of query.nodes arcs.now in
         result ≡ code (at_most query.cap (least_of G (closed_in marks.now) goals.now query.from query.to)) }
-    ensures fact_2 { let N = net_of query.nodes arcs.now marks.now in
+    ensures rows_filled { let N = net_of query.nodes arcs.now marks.now in
         Rowed N query.cap query.from goals.now work.new }
-    ensures work_unchanged { drop 3072 work.new ≡ drop 3072 work.old }
+    ensures kept_rows_unchanged { drop 3072 work.new ≡ drop 3072 work.old }
 {
     let count = goals.len();
     let nodes = query.nodes;

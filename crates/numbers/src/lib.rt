@@ -20,8 +20,8 @@ pub enum SectionRead {
 
 // Passes over the numbers that stand from `from` on.
 pub fn skip_numbers(bytes: &[u8], from: usize, count: usize) -> SectionRead
-    ensures section_is { SectionIs bytes.now read_number count (drop from bytes.now) result }
-    ensures result_in_bounds { from ≤ length bytes.now → section_end result ≤ length bytes.now }
+    ensures section_told { SectionIs bytes.now read_number count (drop from bytes.now) result }
+    ensures ends_inside { from ≤ length bytes.now → section_end result ≤ length bytes.now }
 {
     let mut at = from;
     let mut j: usize = 0;

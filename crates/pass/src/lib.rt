@@ -51,7 +51,7 @@ pub fn ready_rows(
     scratch: &mut [u32],
 )
     requires sought { Sought header arcs.now marks.now goals.now × (length scratch.old ≡ scratch_numbers) }
-    requires fact { let N = net_of header.nodes arcs.now marks.now in
+    requires rows_ready_for_three { let N = net_of header.nodes arcs.now marks.now in
         (first ≡ 3 → Rowed N header.limit header.source goals.now scratch.old) }
     ensures { let N = net_of header.nodes arcs.now marks.now in
         (member 2 marks.now ≡ true → Rowed N header.limit header.source goals.now scratch.new) }
@@ -74,7 +74,7 @@ pub fn list_for_sheet(
     list: &mut [u32],
 ) -> usize
     requires blamed { Blamed header arcs.now marks.now goals.now × (length scratch.old ≡ scratch_numbers) × (576 ≤ length list.old) }
-    requires fact { let N = net_of header.nodes arcs.now marks.now in
+    requires rows_ready_if_forbidden { let N = net_of header.nodes arcs.now marks.now in
         (member 2 marks.now ≡ true → Rowed N header.limit header.source goals.now scratch.old) }
     ensures { let S = sheet_of header arcs.now marks.now in
         Put (reasons_for S goals.now) list.old list.new result }

@@ -20,7 +20,7 @@ fn new_mark(
     forced: &[u8],
     item: usize,
 ) -> u8
-    requires rows { Rows header arcs.now marks.now rows.now × (item < header.nodes + header.arcs) }
+    requires rows_of_sheet { Rows header arcs.now marks.now rows.now × (item < header.nodes + header.arcs) }
     requires forced_nodes { ForcedNodes (sheet_of header arcs.now marks.now) forced.now }
     ensures { result ≡ new_mark (sheet_of header arcs.now marks.now) item }
 {

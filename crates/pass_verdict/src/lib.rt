@@ -53,8 +53,8 @@ fn judge_together(
     goals: &mut [usize],
     scratch: &mut [u32],
 ) -> Verdict
-    requires whole { Whole header arcs.now marks.now × (length goals.old ≡ 8) × (3072 ≤ length scratch.old) }
-    requires fact { let S = sheet_of header arcs.now marks.now in (fits_sheet S [] ≡ true) × (unmet S ≡ []) }
+    requires whole_with_room { Whole header arcs.now marks.now × (length goals.old ≡ 8) × (3072 ≤ length scratch.old) }
+    requires each_item_met { let S = sheet_of header arcs.now marks.now in (fits_sheet S [] ≡ true) × (unmet S ≡ []) }
     ensures { VerdictFound header arcs.now marks.now result goals.new scratch.new }
 {
     let count = sheet_required::required_items(header, arcs, marks, goals);

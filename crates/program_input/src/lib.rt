@@ -15,9 +15,9 @@ pub const INPUT_BYTES: usize = 8192;
 // say of standard input; of a reader whose bytes are known the last clause says it.
 pub fn read_input<R: Read>(reader: &mut R, input: &mut [u8], fault: &mut Option<Error>) -> isize
     requires { length input.old ≡ 8192 }
-    ensures moved { Moved 8192 result }
-    ensures told { MatchOption fault.new ((pos 0 ≤ℤ result) × (result ≤ℤ pos 8192)) (λ _. result ≡ negsuc 0) }
-    ensures filled { Filled (R.remaining reader.old) (R.remaining reader.new) input.new result }
+    ensures count_or_minus_one { Moved 8192 result }
+    ensures minus_one_at_fault { MatchOption fault.new ((pos 0 ≤ℤ result) × (result ≤ℤ pos 8192)) (λ _. result ≡ negsuc 0) }
+    ensures bytes_read_in_front { Filled (R.remaining reader.old) (R.remaining reader.new) input.new result }
 {
     *fault = None;
     let mut done: usize = 0;

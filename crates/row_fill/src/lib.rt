@@ -24,9 +24,9 @@ fn fill(row: &mut [u32], value: u32)
 
 // The same whatever the row held.
 fn fill_row(arcs: &[u32], chains: &[u32], marks: &[u8], from: usize, row: &mut [u32], cap: u32)
-    requires joins { Joins 64 arcs.now × Chained arcs.now chains.now }
-    requires row_len { (length row.old ≡ 64) × (from < 64) × (from < length marks.now) × (cap < missing) }
-    ensures row_is { (N : Net) → StartOf N arcs.now marks.now from → RowIs N cap from row.new }
+    requires arcs_chained { Joins 64 arcs.now × Chained arcs.now chains.now }
+    requires row_and_start_fit { (length row.old ≡ 64) × (from < 64) × (from < length marks.now) × (cap < missing) }
+    ensures least_lengths { (N : Net) → StartOf N arcs.now marks.now from → RowIs N cap from row.new }
     ensures away_missing { AwayMissing arcs.now from row.new }
 {
     fill(row, MISSING);
@@ -40,8 +40,8 @@ fn fill_row(arcs: &[u32], chains: &[u32], marks: &[u8], from: usize, row: &mut [
 
 // Leaves in `row` the least length from `from` to each node, clear of the forbidden items; MISSING above `cap`.
 pub fn row_from(nodes: usize, arcs: &[u32], marks: &[u8], from: usize, row: &mut [u32], cap: u32)
-    requires proper { Proper (net_of nodes arcs.now marks.now) × (length arcs.now ≤ 1536) }
-    requires row_len { (length row.old ≡ 64) × (from < nodes) × (cap < missing) }
+    requires proper_net { Proper (net_of nodes arcs.now marks.now) × (length arcs.now ≤ 1536) }
+    requires row_and_start_fit { (length row.old ≡ 64) × (from < nodes) × (cap < missing) }
     ensures { RowIs (net_of nodes arcs.now marks.now) cap from row.new × NoneBehind nodes row.new }
 {
     let mut packed = [0u32; ARC_NUMBERS];
@@ -68,8 +68,8 @@ fn turn(arcs: &[u32], back: &mut [u32])
 
 // Leaves in `row` the least length from each node to `to`, clear of the forbidden items; MISSING above `cap`.
 pub fn row_to(nodes: usize, arcs: &[u32], marks: &[u8], to: usize, row: &mut [u32], cap: u32)
-    requires proper { Proper (net_of nodes arcs.now marks.now) × (length arcs.now ≤ 1536) }
-    requires row_len { (length row.old ≡ 64) × (to < nodes) × (cap < missing) }
+    requires proper_net { Proper (net_of nodes arcs.now marks.now) × (length arcs.now ≤ 1536) }
+    requires row_and_end_fit { (length row.old ≡ 64) × (to < nodes) × (cap < missing) }
     ensures { RowTo (net_of nodes arcs.now marks.now) cap to row.new × NoneBehind nodes row.new }
 {
     let mut back = [0u32; ARC_NUMBERS];
@@ -81,10 +81,10 @@ pub fn row_to(nodes: usize, arcs: &[u32], marks: &[u8], to: usize, row: &mut [u3
 // Fills the row of each start, whatever the work held. Row `i` has the 64 numbers of the work from `i` * 64 on.
 pub fn fill_rows(arcs: &[u32], marks: &[u8], starts: &[usize], work: &mut [u32], cap: u32)
     requires { Joins 64 arcs.now × StartsFit marks.now starts.now work.old × (cap < missing) × (length arcs.now ≤ 1536) }
-    ensures fact { let ss = starts.now in
+    ensures rows_filled { let ss = starts.now in
         ((N : Net) → StartsOf N arcs.now marks.now ss → RowsAre N cap ss (length ss) work.new) }
-    ensures work_after { let n = length starts.now * 64 in drop n work.new ≡ drop n work.old }
-    ensures fact_2 { let ss = starts.now in
+    ensures behind_rows_unchanged { let n = length starts.now * 64 in drop n work.new ≡ drop n work.old }
+    ensures away_missing { let ss = starts.now in
         ((i : ℕ) → i < length ss → AwayMissing arcs.now (get_or ss i 0) (row_at work.new i)) }
 {
     let chains = row_spread::chained(arcs);

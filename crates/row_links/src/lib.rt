@@ -29,9 +29,9 @@ fn put_on(packed: &mut [u32], arc: usize)
 // Chains the `count` first arcs, whatever stands behind them.
 fn chain_all(packed: &mut [u32], count: usize)
     requires { (length packed.old ≡ 2112) × (count ≤ 512) × Joins 64 (take (count * 3) packed.old) }
-    ensures fact { let ps = packed.old in
+    ensures arcs_chained { let ps = packed.old in
         (take 1536 packed.new ≡ take 1536 ps) × ChainedBy (tail_in ps) count (drop 1536 packed.new) }
-    ensures packed_unchanged { drop (1600 + count) packed.new ≡ drop (1600 + count) packed.old }
+    ensures behind_chains_unchanged { drop (1600 + count) packed.new ≡ drop (1600 + count) packed.old }
 {
     let mut node = 0;
     while node < ROW_LENGTH {

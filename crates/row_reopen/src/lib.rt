@@ -66,10 +66,10 @@ pub struct Row {
 // Keeps the row and mends it, if it has to be mended, and gives the rows that are kept then.
 fn mend_kept(row: Row, change: Change, packed: &[u32], marks: &[u8], work: &mut [u32]) -> u64
     requires shaped { Shaped row.count packed.now × (row.number < 9) × (length work.old ≡ scratch_numbers) }
-    requires from_bound { (row.from < 64) × (row.from < length marks.now) × (row.cap < missing) × (change.tail < 64) × (change.head < 64) }
-    ensures fact { let C = change_of change.node change.tail change.head change.weight in
+    requires start_and_change_fit { (row.from < 64) × (row.from < length marks.now) × (row.cap < missing) × (change.tail < 64) × (change.head < 64) }
+    ensures row_kept_if_cut { let C = change_of change.node change.tail change.head change.weight in
         Mends row.number row.cap C row.kept work.old work.new result }
-    ensures fact_2 { let C = change_of change.node change.tail change.head change.weight in
+    ensures row_mended { let C = change_of change.node change.tail change.head change.weight in
         let ys = take (row.count * 3) packed.now in
         let old = row_at work.old row.number in
         let new = row_at work.new row.number in
@@ -115,15 +115,15 @@ fn mend_rows(
     starts: &[usize],
     work: &mut [u32],
 ) -> u64
-    requires fact { let n = length starts.now in
+    requires shaped_with_starts { let n = length starts.now in
         Shaped opening.count packed.now × StartsFit marks.now starts.now work.old × (n ≤ 9) × (length work.old ≡ scratch_numbers) }
-    requires cap_lt_missing { (opening.cap < missing) × (change.tail < 64) × (change.head < 64) }
-    ensures fact_2 { let C = change_of change.node change.tail change.head change.weight in
+    requires cap_and_change_fit { (opening.cap < missing) × (change.tail < 64) × (change.head < 64) }
+    ensures cut_rows_saved { let C = change_of change.node change.tail change.head change.weight in
         Saves (length starts.now) opening.cap C work.old work.new result }
-    ensures fact_3 { let C = change_of change.node change.tail change.head change.weight in
+    ensures rows_mended { let C = change_of change.node change.tail change.head change.weight in
         let ys = take (opening.count * 3) packed.now in
         RowsMended opening.cap ys marks.now starts.now change.active C work.old work.new }
-    ensures fact_4 { let C = change_of change.node change.tail change.head change.weight in
+    ensures away_same_and_others_spared { let C = change_of change.node change.tail change.head change.weight in
         let ys = take (opening.count * 3) packed.now in
         let ss = starts.now in
         let before = work.old in
@@ -172,9 +172,9 @@ pub fn open_item(
     starts: &[usize],
     work: &mut [u32],
 ) -> u64
-    requires fact { let N = net_of opening.nodes arcs.now marks.now in
+    requires proper_net_and_item { let N = net_of opening.nodes arcs.now marks.now in
         Proper N × (opening.item < opening.nodes + arc_count arcs.now) × (opening.cap < missing) }
-    requires fact_2 { let n = length starts.now in
+    requires shaped_with_starts { let n = length starts.now in
         Shaped opening.count packed.now × StartsFit marks.now starts.now work.old × (n ≤ 9) × (length work.old ≡ scratch_numbers) }
     ensures { let xs = arcs.now in
         let ys = take (opening.count * 3) packed.now in

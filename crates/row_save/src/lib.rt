@@ -44,8 +44,8 @@ fn is_kept(kept: u64, row: usize) -> bool
 // Puts row `row` back, if it is kept.
 fn put_row_back(work: &mut [u32], row: usize, kept: u64)
     requires { (row < 9) × (length work.old ≡ scratch_numbers) }
-    ensures row_put { bit_of kept row ≡ 1 → RowPut work.old (3072 + row * 64) (row * 64) work.new }
-    ensures work_unchanged { bit_of kept row ≡ 0 → work.new ≡ work.old }
+    ensures back_if_kept { bit_of kept row ≡ 1 → RowPut work.old (3072 + row * 64) (row * 64) work.new }
+    ensures unchanged_if_not_kept { bit_of kept row ≡ 0 → work.new ≡ work.old }
 {
     if is_kept(kept, row) {
         let at = row * ROW_LENGTH;
@@ -88,8 +88,8 @@ fn row_moved(work: &[u32], row: usize, count: usize, to: usize) -> bool
 // The same of a row only if it is kept.
 fn kept_moved(work: &[u32], row: usize, kept: u64, count: usize, to: usize) -> bool
     requires { (length work.now ≡ scratch_numbers) × (row < 9) × (count ≤ 8) × (to < 64) × Entered count work.now }
-    ensures unmoved_at { result ≡ false → bit_of kept row ≡ 1 → UnmovedAt work.now row count to }
-    ensures row_value { result ≡ true → (bit_of kept row ≡ 1) × (UnmovedAt work.now row count to → ⊥) }
+    ensures unmoved_if_false { result ≡ false → bit_of kept row ≡ 1 → UnmovedAt work.now row count to }
+    ensures kept_and_moved_if_true { result ≡ true → (bit_of kept row ≡ 1) × (UnmovedAt work.now row count to → ⊥) }
 {
     if is_kept(kept, row) {
         return row_moved(work, row, count, to);

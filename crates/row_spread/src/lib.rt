@@ -54,12 +54,12 @@ fn spread_node(
     cap: u32,
 ) -> u64
     requires { Joins 64 arcs.now × Chained arcs.now chains.now × (length row.old ≡ 64) × (node < 64) × (bit_of active node ≡ 1) }
-    ensures fact { let xs = arcs.now in
+    ensures good_stays_good { let xs = arcs.now in
         let d = row.old in
         let e = row.new in
         Keeps cap xs d e × ((s : ℕ) → AwaySame xs s d e) }
-    ensures still { Still cap arcs.now active row.old → Still cap arcs.now result row.new }
-    ensures tries { Tries row.old ((bit_of result node ≡ 0) × ((x : ℕ) → bit_of active x ≡ 0 → bit_of result x ≡ 0)) row.new }
+    ensures still_kept { Still cap arcs.now active row.old → Still cap arcs.now result row.new }
+    ensures active_or_total_falls { Tries row.old ((bit_of result node ≡ 0) × ((x : ℕ) → bit_of active x ≡ 0 → bit_of result x ≡ 0)) row.new }
 {
     let mut left = active ^ 1u64 << node;
     let mut link = chains[node];
@@ -92,11 +92,11 @@ fn nearest(row: &[u32], active: u64) -> usize
 // can cut no entry, so none can then. The nearest node goes first, so that a row takes the same time however the nodes are numbered.
 fn spread_active(arcs: &[u32], chains: &[u32], row: &mut [u32], active: u64, cap: u32)
     requires { Joins 64 arcs.now × Chained arcs.now chains.now × (length row.old ≡ 64) }
-    ensures fact { let xs = arcs.now in
+    ensures good_stays_good { let xs = arcs.now in
         let d = row.old in
         let e = row.new in
         Keeps cap xs d e × ((s : ℕ) → AwaySame xs s d e) }
-    ensures fact_2 { let xs = arcs.now in
+    ensures all_settled { let xs = arcs.now in
         (Still cap xs active row.old → Settled cap xs 0 (arc_count xs) row.new) }
 {
     let mut left = active;
@@ -118,8 +118,8 @@ pub struct Mend {
 // MISSING or the length of such a walk, and no arc whose tail is not active can cut an entry. So is an empty row with its start active, and a row made
 // when more items were forbidden with the tails of the opened arcs active.
 pub fn mend_row(mend: Mend, arcs: &[u32], chains: &[u32], marks: &[u8], row: &mut [u32])
-    requires joins { Joins 64 arcs.now × Chained arcs.now chains.now }
-    requires row_len { (length row.old ≡ 64) × (mend.from < 64) × (mend.from < length marks.now) × (mend.cap < missing) }
+    requires arcs_chained { Joins 64 arcs.now × Chained arcs.now chains.now }
+    requires row_and_start_fit { (length row.old ≡ 64) × (mend.from < 64) × (mend.from < length marks.now) × (mend.cap < missing) }
     ensures { let xs = arcs.now in
         let d = row.old in
         let e = row.new in

@@ -37,7 +37,7 @@ pub struct Field {
 // Reads source, target and limit, which stand from `at` on.
 fn header_ends(sheet: &[u8], at: usize, nodes: u32, arcs: u32) -> HeaderRead
     requires { (2 ≤ nodes) × (nodes ≤ 64) × (arcs ≤ 512) }
-    ensures result_value { header_in sheet.now result ≡ header_source nodes arcs (drop at sheet.now) }
+    ensures source_to_limit_read { header_in sheet.now result ≡ header_source nodes arcs (drop at sheet.now) }
     ensures header_fits { HeaderFits sheet.now result }
 {
     let source = match sheet_values::judged_at(sheet, at, nodes, 7) {
@@ -74,7 +74,7 @@ fn header_ends(sheet: &[u8], at: usize, nodes: u32, arcs: u32) -> HeaderRead
 
 // Reads the five numbers in front.
 pub fn header_of(sheet: &[u8]) -> HeaderRead
-    ensures result_value { header_in sheet.now result ≡ read_header sheet.now }
+    ensures header_read { header_in sheet.now result ≡ read_header sheet.now }
     ensures header_fits { HeaderFits sheet.now result }
 {
     let nodes = match sheet_values::judged_at(sheet, 0, NODES_END, 5) {
@@ -126,8 +126,8 @@ fn arc_at(sheet: &[u8], at: usize, nodes: u32) -> ArcRead
 // Reads the arcs at the front of `section` and stores tail, head and minutes of each over the front of `arcs`.
 pub fn arcs_in(section: &[u8], nodes: u32, count: usize, arcs: &mut [u32]) -> SectionRead
     requires { 3 * count ≤ length arcs.old }
-    ensures section_is { SectionIs section.now (read_arc nodes) count section.now result }
-    ensures arcs_after { arcs.new ≡ front (flat (begun (read_arc nodes) count section.now)) arcs.old }
+    ensures section_told { SectionIs section.now (read_arc nodes) count section.now result }
+    ensures arcs_in_front { arcs.new ≡ front (flat (begun (read_arc nodes) count section.now)) arcs.old }
 {
     let mut at: usize = 0;
     let mut j: usize = 0;

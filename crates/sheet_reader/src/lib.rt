@@ -36,9 +36,9 @@ pub enum SheetRead {
 // Reads the arcs and the marks of a sheet whose header was read: `section` is the part of the sheet that starts at the limit's end.
 fn read_lists(header: Header, section: &[u8], arcs: &mut [u32], marks: &mut [u8]) -> SectionRead
     requires { (header.nodes ≤ 64) × (header.arcs ≤ 512) × (1536 ≤ length arcs.old) × (576 ≤ length marks.old) }
-    ensures result_value { let s = section.now in sheet_in s (sheet_behind header s) result ≡ read_arcs header s }
-    ensures arcs_after { arcs.new ≡ front (flat (arcs_behind header section.now)) arcs.old }
-    ensures marks_after { marks.new ≡ front (marks_behind header section.now) marks.old }
+    ensures lists_told { let s = section.now in sheet_in s (sheet_behind header s) result ≡ read_arcs header s }
+    ensures arcs_in_front { arcs.new ≡ front (flat (arcs_behind header section.now)) arcs.old }
+    ensures marks_in_front { marks.new ≡ front (marks_behind header section.now) marks.old }
 {
     let nodes = header.nodes;
     let count = header.arcs;
@@ -58,10 +58,10 @@ fn read_behind(
     services: &mut [u32],
 ) -> SheetRead
     requires { (header.nodes ≤ 64) × (header.arcs ≤ 512) × (1536 ≤ length arcs.old) × (576 ≤ length marks.old) × (64 ≤ length services.old) }
-    ensures value { result ≡ answered (read_behind leading header section.now) }
-    ensures arcs_after { arcs.new ≡ front (flat (arcs_behind header section.now)) arcs.old }
-    ensures marks_after { marks.new ≡ front (marks_behind header section.now) marks.old }
-    ensures services_after { services.new ≡ front (services_behind leading header section.now) services.old }
+    ensures rest_told { result ≡ answered (read_behind leading header section.now) }
+    ensures arcs_in_front { arcs.new ≡ front (flat (arcs_behind header section.now)) arcs.old }
+    ensures marks_in_front { marks.new ≡ front (marks_behind header section.now) marks.old }
+    ensures services_in_front { services.new ≡ front (services_behind leading header section.now) services.old }
 {
     let marked = match read_lists(header, section, arcs, marks) {
         SectionRead::Got(at) => at,
@@ -95,10 +95,10 @@ fn read_content(
     services: &mut [u32],
 ) -> SheetRead
     requires { (1536 ≤ length arcs.old) × (576 ≤ length marks.old) × (64 ≤ length services.old) }
-    ensures value { result ≡ answered (read_content leading content.now) }
-    ensures arcs_after { arcs.new ≡ front (flat (arcs_begun content.now)) arcs.old }
-    ensures marks_after { marks.new ≡ front (marks_begun content.now) marks.old }
-    ensures services_after { services.new ≡ front (services_begun leading content.now) services.old }
+    ensures content_told { result ≡ answered (read_content leading content.now) }
+    ensures arcs_in_front { arcs.new ≡ front (flat (arcs_begun content.now)) arcs.old }
+    ensures marks_in_front { marks.new ≡ front (marks_begun content.now) marks.old }
+    ensures services_in_front { services.new ≡ front (services_begun leading content.now) services.old }
 {
     match sheet_parts::header_of(content) {
         HeaderRead::Got(header, at) => read_behind(
@@ -123,11 +123,11 @@ pub fn read_page(
     services: &mut [u32],
 ) -> SheetRead
     requires { (1536 ≤ length arcs.old) × (576 ≤ length marks.old) × (64 ≤ length services.old) }
-    ensures value { result ≡ answered (taken sheet.now) }
-    ensures arcs_after { let s = sheet.now in arcs.new ≡ front (flat (arcs_left (taken s) (arcs_begun (content s)))) arcs.old }
-    ensures marks_after { marks.new ≡ front (marks_begun (content sheet.now)) marks.old }
-    ensures services_after { let s = sheet.now in services.new ≡ front (services_begun (lead s) (content s)) services.old }
-    ensures page_as { PageAs sheet.now result arcs.new marks.new services.new }
+    ensures sheet_told { result ≡ answered (taken sheet.now) }
+    ensures arcs_in_front { let s = sheet.now in arcs.new ≡ front (flat (arcs_left (taken s) (arcs_begun (content s)))) arcs.old }
+    ensures marks_in_front { marks.new ≡ front (marks_begun (content sheet.now)) marks.old }
+    ensures services_in_front { let s = sheet.now in services.new ≡ front (services_begun (lead s) (content s)) services.old }
+    ensures loaded_or_refused { PageAs sheet.now result arcs.new marks.new services.new }
 {
     let start = sheet_services::content_at(sheet);
     match read_content(start, &sheet[start..], arcs, marks, services) {
@@ -142,10 +142,10 @@ pub fn read_page(
 // The same for a caller that looks at no service minutes by themselves.
 pub fn read(sheet: &[u8], arcs: &mut [u32], marks: &mut [u8]) -> SheetRead
     requires { (1536 ≤ length arcs.old) × (576 ≤ length marks.old) }
-    ensures value { result ≡ answered (taken sheet.now) }
-    ensures arcs_after { let s = sheet.now in arcs.new ≡ front (flat (arcs_left (taken s) (arcs_begun (content s)))) arcs.old }
-    ensures marks_after { marks.new ≡ front (marks_begun (content sheet.now)) marks.old }
-    ensures read_as { ReadAs sheet.now result arcs.new marks.new }
+    ensures sheet_told { result ≡ answered (taken sheet.now) }
+    ensures arcs_in_front { let s = sheet.now in arcs.new ≡ front (flat (arcs_left (taken s) (arcs_begun (content s)))) arcs.old }
+    ensures marks_in_front { marks.new ≡ front (marks_begun (content sheet.now)) marks.old }
+    ensures loaded_or_refused { ReadAs sheet.now result arcs.new marks.new }
 {
     let mut services = [0u32; NODES];
     read_page(sheet, arcs, marks, &mut services)

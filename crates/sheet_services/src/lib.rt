@@ -16,8 +16,8 @@ use sheet::LEAD;
 
 // Where the content of a sheet starts: behind the 1, or at the front.
 pub fn content_at(sheet: &[u8]) -> usize
-    ensures value { result ≡ lead sheet.now }
-    ensures sheet_value { (drop result sheet.now ≡ content sheet.now) × (result ≤ length sheet.now) }
+    ensures lead_told { result ≡ lead sheet.now }
+    ensures content_begins_there { (drop result sheet.now ≡ content sheet.now) × (result ≤ length sheet.now) }
 {
     if sheet.len() == 0 {
         return 0;
@@ -64,8 +64,8 @@ pub fn services_behind(
     services: &mut [u32],
 ) -> SectionRead
     requires { nodes ≤ length services.old }
-    ensures services_are { ServicesAre section.now leading nodes (drop from section.now) result }
-    ensures services_after { services.new ≡ front (services_in leading nodes (drop from section.now)) services.old }
+    ensures services_told { ServicesAre section.now leading nodes (drop from section.now) result }
+    ensures services_in_front { services.new ≡ front (services_in leading nodes (drop from section.now)) services.old }
 {
     if leading == 0 {
         clear(services, nodes);

@@ -26,8 +26,8 @@ pub enum ValueRead {
 
 // Reads the number at `at`, which is to be below `end`; otherwise the refusal is `why`.
 pub fn judged_at(sheet: &[u8], at: usize, end: u32, why: u32) -> ValueRead
-    ensures result_value { judged_of sheet.now result ≡ number why (λ x. ltb x end) (drop at sheet.now) }
-    ensures result_in_bounds { next_of result ≤ length sheet.now }
+    ensures number_judged { judged_of sheet.now result ≡ number why (λ x. ltb x end) (drop at sheet.now) }
+    ensures next_inside { next_of result ≤ length sheet.now }
 {
     match varint::number_at(sheet, at) {
         Number::Got(x, next) => {
@@ -45,8 +45,8 @@ pub fn judged_at(sheet: &[u8], at: usize, end: u32, why: u32) -> ValueRead
 // Reads the marks that stand from `from` on and stores each over the front of `marks`.
 pub fn marks_in(section: &[u8], from: usize, count: usize, marks: &mut [u8]) -> SectionRead
     requires { count ≤ length marks.old }
-    ensures section_is { SectionIs section.now read_mark count (drop from section.now) result }
-    ensures marks_after { marks.new ≡ front (begun read_mark count (drop from section.now)) marks.old }
+    ensures section_told { SectionIs section.now read_mark count (drop from section.now) result }
+    ensures marks_in_front { marks.new ≡ front (begun read_mark count (drop from section.now)) marks.old }
 {
     let mut at = from;
     let mut j: usize = 0;
@@ -68,8 +68,8 @@ pub fn marks_in(section: &[u8], from: usize, count: usize, marks: &mut [u8]) -> 
 // Reads the service minutes that stand from `from` on and stores each over the front of `services`.
 pub fn services_in(section: &[u8], from: usize, count: usize, services: &mut [u32]) -> SectionRead
     requires { count ≤ length services.old }
-    ensures section_is { SectionIs section.now read_service count (drop from section.now) result }
-    ensures services_after { services.new ≡ front (begun read_service count (drop from section.now)) services.old }
+    ensures section_told { SectionIs section.now read_service count (drop from section.now) result }
+    ensures services_in_front { services.new ≡ front (begun read_service count (drop from section.now)) services.old }
 {
     let mut at = from;
     let mut j: usize = 0;

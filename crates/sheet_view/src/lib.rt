@@ -29,8 +29,8 @@ fn past_numbers(sheet: &[u8], from: usize, count: usize) -> usize
 // The part of the sheet that holds the three numbers of the arc; empty, at the sheet's front, where the sheet is refused or has no such arc (document
 // 01: leg view). The contract fixes the place, and so no other part that holds the same bytes will do.
 pub fn arc_view(sheet: &[u8], arc: u32) -> &[u8]
-    ensures ref_ptr_value { (result.ref_ptr.0 ≡ sheet.entry.ref_ptr.0) × (result.ref_ptr.1 ≡ place_of sheet.now arc + sheet.entry.ref_ptr.1) }
-    ensures result_value { result.now ≡ arc_view sheet.now arc }
+    ensures lies_in_sheet { (result.ref_ptr.0 ≡ sheet.entry.ref_ptr.0) × (result.ref_ptr.1 ≡ place_of sheet.now arc + sheet.entry.ref_ptr.1) }
+    ensures bytes_of_arc { result.now ≡ arc_view sheet.now arc }
 {
     let mut arcs = [0u32; ARC_NUMBERS];
     let mut marks = [0u8; ITEMS];

@@ -56,8 +56,8 @@ fn sheet_size(header: Header, arcs: &[u32], marks: &[u8], services: &[u32]) -> u
 
 // Writes the content of a sheet without fault over the front of `out` and gives its length.
 fn put_content(header: Header, arcs: &[u32], marks: &[u8], out: &mut [u8]) -> usize
-    requires by_index { (services : List ℕ) × (draft_fault (draft_of header arcs.now marks.now services) ≡ 0) }
-    requires marks_in_bounds { length (write_numbers (sheet_numbers (sheet_of header arcs.now marks.now))) ≤ length out.old }
+    requires faultless_by_some_services { (services : List ℕ) × (draft_fault (draft_of header arcs.now marks.now services) ≡ 0) }
+    requires content_fits { length (write_numbers (sheet_numbers (sheet_of header arcs.now marks.now))) ≤ length out.old }
     ensures { let S = sheet_of header arcs.now marks.now in
         Put (write_numbers (sheet_numbers S)) out.old out.new result }
 {
@@ -75,8 +75,8 @@ fn put_served(
     services: &[u32],
     sheet: &mut [u8],
 ) -> usize
-    requires services_value { draft_fault (draft_of header arcs.now marks.now services.now) ≡ 0 }
-    requires services_in_bounds { length (write_numbers (with_services (sheet_numbers (sheet_of header arcs.now marks.now)) services.now)) ≤ length sheet.old }
+    requires draft_faultless { draft_fault (draft_of header arcs.now marks.now services.now) ≡ 0 }
+    requires numbers_fit { length (write_numbers (with_services (sheet_numbers (sheet_of header arcs.now marks.now)) services.now)) ≤ length sheet.old }
     ensures { let xs = with_services (sheet_numbers (sheet_of header arcs.now marks.now)) services.now in
         Put (write_numbers xs) sheet.old sheet.new result }
 {
@@ -93,8 +93,8 @@ fn put_sheet(
     services: &[u32],
     sheet: &mut [u8],
 ) -> usize
-    requires services_value { draft_fault (draft_of header arcs.now marks.now services.now) ≡ 0 }
-    requires services_in_bounds { length (page_bytes (draft_page (draft_of header arcs.now marks.now services.now))) ≤ length sheet.old }
+    requires draft_faultless { draft_fault (draft_of header arcs.now marks.now services.now) ≡ 0 }
+    requires page_fits { length (page_bytes (draft_page (draft_of header arcs.now marks.now services.now))) ≤ length sheet.old }
     ensures { let P = draft_page (draft_of header arcs.now marks.now services.now) in
         Put (page_bytes P) sheet.old sheet.new result }
 {

@@ -18,8 +18,8 @@ pub enum ListRead {
 
 // Judges the list at `at`: a count, and as many numbers.
 fn list_at(slip: &[u8], at: usize) -> ListRead
-    ensures result_value { list_of slip.now result ≡ read_list (drop at slip.now) }
-    ensures list_count { ListCount slip.now result }
+    ensures list_told { list_of slip.now result ≡ read_list (drop at slip.now) }
+    ensures count_is_said { ListCount slip.now result }
 {
     match varint::number_at(slip, at) {
         Number::Got(count, from) => match numbers::skip_numbers(slip, from, count as usize) {
@@ -50,7 +50,7 @@ pub enum SlipRead {
 
 // Judges the goals and the reasons, which stand from `at` on.
 fn read_lists(slip: &[u8], first: u32, at: usize) -> SlipRead
-    ensures result_value { slip_of slip.now result ≡ lists_of first (drop at slip.now) }
+    ensures lists_told { slip_of slip.now result ≡ lists_of first (drop at slip.now) }
     ensures slip_counts { SlipCounts slip.now result }
 {
     match list_at(slip, at) {
@@ -75,7 +75,7 @@ fn read_lists(slip: &[u8], first: u32, at: usize) -> SlipRead
 
 // Judges how a slip is written. `numbers::numbers_at` then reads its goals and its reasons from where they stand.
 pub fn judge_slip(slip: &[u8]) -> SlipRead
-    ensures result_value { slip_of slip.now result ≡ read_slip slip.now }
+    ensures slip_told { slip_of slip.now result ≡ read_slip slip.now }
     ensures slip_counts { SlipCounts slip.now result }
 {
     match varint::number_at(slip, 0) {

@@ -28,8 +28,8 @@ fn put_reasons(out: &mut [u8], reasons: &[u32]) -> usize
 
 // Writes the slip of a refused round or a struck item over the front of `slip` and gives its length.
 pub fn write_slip(slip: &mut [u8], first: u32, goals: &[usize], reasons: &[u32]) -> usize
-    requires reasons_value { small (slip_numbers (slip_from first goals.now reasons.now)) ≡ true }
-    requires reasons_in_bounds { length (slip_bytes (slip_from first goals.now reasons.now)) ≤ length slip.old }
+    requires numbers_small { small (slip_numbers (slip_from first goals.now reasons.now)) ≡ true }
+    requires slip_fits { length (slip_bytes (slip_from first goals.now reasons.now)) ≤ length slip.old }
     ensures { Put (slip_bytes (slip_from first goals.now reasons.now)) slip.old slip.new result }
 {
     let at = varint::put_number(slip, first);

@@ -159,8 +159,8 @@ fn write_front(kept: &mut [u32], numbers: &[u32])
 
 // The store with a sheet's map, service minutes, source and target.
 fn with_base(store: Store, header: Header, arcs: &[u32], services: &[u32]) -> Store
-    requires arcs_len { (length arcs.now ≡ 3 * header.arcs) × (length services.now ≡ header.nodes) }
-    requires nodes_bound { (header.nodes ≤ 64) × (header.arcs ≤ 512) × (header.source < 64) × (header.target < 64) }
+    requires lists_of_header { (length arcs.now ≡ 3 * header.arcs) × (length services.now ≡ header.nodes) }
+    requires header_in_range { (header.nodes ≤ 64) × (header.arcs ≤ 512) × (header.source < 64) × (header.target < 64) }
     ensures { Based store (base_from header arcs.now services.now) result }
 {
     let mut based = store;
@@ -203,8 +203,8 @@ fn unchanged(store: Store, number: u32) -> Putting
 // room. A function of its own in the compiled code too, so that its stores are not on the stack while check runs.
 #[inline(never)]
 fn enter(store: Store, header: Header, arcs: &[u32], services: &[u32], slot: Slot) -> Putting
-    requires arcs_len { (length arcs.now ≡ 3 * header.arcs) × (length services.now ≡ header.nodes) }
-    requires nodes_bound { (header.nodes ≤ 64) × (header.arcs ≤ 512) × (header.source < 64) × (header.target < 64) }
+    requires lists_of_header { (length arcs.now ≡ 3 * header.arcs) × (length services.now ≡ header.nodes) }
+    requires header_in_range { (header.nodes ≤ 64) × (header.arcs ≤ 512) × (header.source < 64) × (header.target < 64) }
     ensures { let base = base_from header arcs.now services.now in PutAs store (entered_on (shelf_of store) base (shown slot)) result }
 {
     if !fits_base(store, header, arcs, services) {

@@ -149,7 +149,7 @@ reached_fixed n (puts {L} o sheet work slip) =
     let g = put_fixed L f.some sheet work slip in
     record { base = g.base ∙ f.base; some = g.some }
 
--- The base of a reached shelf with slips is that of a sheet which was put, so that 22 tells what the sheets say apart (`same_base`).
+-- The base of a reached shelf with slips is that of a sheet which was put, so that 22 tells what the sheets say apart (`same_base_lem`).
 pub reached_base : {K : Shelf} → Reached K → (K.slips ≡ [] → ⊥) → (P : Page) × (sheet : List ℕ) × (page sheet ≡ got P []) × (K.base ≡ base_of P)
 reached_base r =
     reached_keeps (λ K. (K.slips ≡ [] → ⊥) → (P : Page) × (sheet : List ℕ) × (page sheet ≡ got P []) × (K.base ≡ base_of P)) (λ K e n. absurd (n e))

@@ -31,8 +31,8 @@ fn put_listed(
     item: usize,
     slip: &[u8],
 ) -> usize
-    requires whole { Whole header arcs.now marks.now × (item < header.nodes + header.arcs) × (8192 ≤ length out.old) }
-    requires item_value { slip_bytes (slip_for (sheet_of header arcs.now marks.now) 4 (item ∷ [])) ≡ slip.now }
+    requires whole_with_room { Whole header arcs.now marks.now × (item < header.nodes + header.arcs) × (8192 ≤ length out.old) }
+    requires slip_of_item { slip_bytes (slip_for (sheet_of header arcs.now marks.now) 4 (item ∷ [])) ≡ slip.now }
     ensures { let S = sheet_of header arcs.now marks.now in
         Put (cost_lines S item (reasons_for S (item ∷ []))) out.old out.new result }
 {
@@ -87,8 +87,8 @@ fn put_answer(out: &mut [u8], sheet: &[u8], item: u32) -> usize
 // from the first; it lets a caller take that part of `out` with no proof of its own.
 pub fn report_cost(input: &[u8], out: &mut [u8]) -> usize
     requires { 8192 ≤ length out.old }
-    ensures put { Put (cost_text input.now) out.old out.new result }
-    ensures upper_bound { (result ≤ length out.new) × (result ≡ length (take result out.new)) }
+    ensures text_in_front { Put (cost_text input.now) out.old out.new result }
+    ensures length_inside { (result ≤ length out.new) × (result ≡ length (take result out.new)) }
 {
     match varint::number_at(input, 0) {
         Number::Got(item, next) => put_answer(out, &input[next..], item),

@@ -66,10 +66,10 @@ fn put_slip_text(sheet: &[u8], slip: &[u8], out: &mut [u8]) -> usize
 // lets a caller take that part of `out` with no proof of its own.
 pub fn report(sheet: &[u8], work: &mut [u32], out: &mut [u8]) -> usize
     requires { 8192 ≤ length out.old }
-    ensures value { result ≡ length (text sheet.now (answer_to sheet.now work.old)) }
-    ensures out_after { out.new ≡ front (text sheet.now (answer_to sheet.now work.old)) out.old }
-    ensures work_after { work.new ≡ (outcome (answer_to sheet.now work.old) work.old []).work }
-    ensures upper_bound { (result ≤ length out.new) × (result ≡ length (take result out.new)) }
+    ensures text_length { result ≡ length (text sheet.now (answer_to sheet.now work.old)) }
+    ensures text_in_front { out.new ≡ front (text sheet.now (answer_to sheet.now work.old)) out.old }
+    ensures work_left { work.new ≡ (outcome (answer_to sheet.now work.old) work.old []).work }
+    ensures length_inside { (result ≤ length out.new) × (result ≡ length (take result out.new)) }
 {
     let mut slip = [0u8; pass::SLIP_BYTES];
     let answer = pass::pass(sheet, work, &mut slip);

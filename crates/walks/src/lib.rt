@@ -1,4 +1,5 @@
 // Graphs, walks and least lengths: definitions and laws, and the marks and sizes that every crate above shares. The routines are in the crate `lengths`.
+#![tactic(auto)]
 
 // The mark of an item that a walk may meet or leave out.
 pub const OPEN: u8 = 0;

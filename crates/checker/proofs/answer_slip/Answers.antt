@@ -17,20 +17,20 @@ pub returns-then-too_long : goal.returns-then-too_long
 returns-then-too_long c =
     let n = c.in-Got.ensures.slip_counts in
     let j = c.judge_slip in
-    answer_form (sheet_of c.args.header c.args.arcs.now c.args.marks.now) c.args.slip.now j.result j.ensures.result_value c.in-Got.is
+    answer_form (sheet_of c.args.header c.args.arcs.now c.args.marks.now) c.args.slip.now j.result j.ensures.slip_told c.in-Got.is
     (c.refused.ensures ∙ answer_formed (sheet_of c.args.header c.args.arcs.now c.args.marks.now) _ (too_many (sheet_of c.args.header c.args.arcs.now c.args.marks.now) _ _ _ n.0 n.1 (items_are c.requires.0) (sym c.too_long.ensures ∙ c.if-too_long.true)))
 
 pub answer_lists-requires : goal.answer_lists-requires
 answer_lists-requires c =
     let f = or_false _ _ (sym c.too_long.ensures ∙ c.if-too_long.false) in
-    record { whole = (c.requires.0, c.requires.1, c.in-Got.ensures.slip_counts); goals_bound = (ltb-false _ _ f.0, ltb-false _ _ f.1) }
+    record { sheet_and_slip_whole = (c.requires.0, c.requires.1, c.in-Got.ensures.slip_counts); lists_short = (ltb-false _ _ f.0, ltb-false _ _ f.1) }
 
 pub returns-else-too_long : goal.returns-else-too_long
 returns-else-too_long c =
     let j = c.judge_slip in
-    answer_form (sheet_of c.args.header c.args.arcs.now c.args.marks.now) c.args.slip.now j.result j.ensures.result_value c.in-Got.is c.answer_lists.ensures
+    answer_form (sheet_of c.args.header c.args.arcs.now c.args.marks.now) c.args.slip.now j.result j.ensures.slip_told c.in-Got.is c.answer_lists.ensures
 
 pub returns-in-Refused : goal.returns-in-Refused
 returns-in-Refused c =
     let j = c.judge_slip in
-    answer_unformed (sheet_of c.args.header c.args.arcs.now c.args.marks.now) c.args.slip.now j.result j.ensures.result_value c.in-Refused.is c.refused-in-Refused.ensures
+    answer_unformed (sheet_of c.args.header c.args.arcs.now c.args.marks.now) c.args.slip.now j.result j.ensures.slip_told c.in-Refused.is c.refused-in-Refused.ensures

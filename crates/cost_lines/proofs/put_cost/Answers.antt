@@ -13,10 +13,10 @@ lines-room : (s : goal.Start) → let S = sheet_of s.args.header s.args.arcs.now
     Room (slack_line s.args.header.limit (length_through S (is_forbidden S) s.args.item))
     (lines (opened_line (sheet_of s.args.header s.args.arcs.now []) s.args.item s.args.list.now) s.args.list.now) s.args.out.now
 unfolding cost_lines opened_line length_opened length_through
-lines-room s = record { fits = s.requires.list_in_bounds }
+lines-room s = record { fits = s.requires.lines_fit }
 
 pub put_slack-at-requires : goal.put_slack-at-requires
-put_slack-at-requires c = let s = (goal.at.put_slack-at-requires c).Start in (s.requires.whole.0, s.requires.whole.1, first_fits (lines-room s))
+put_slack-at-requires c = let s = (goal.at.put_slack-at-requires c).Start in (s.requires.whole_and_markable.0, s.requires.whole_and_markable.1, first_fits (lines-room s))
 
 pub slice_bounds-put_openings-count : goal.slice_bounds-put_openings-count
 slice_bounds-put_openings-count c = put_within (lines-room (goal.at.slice_bounds-put_openings-count c).Start) c.put_slack-at.ensures
@@ -24,7 +24,7 @@ slice_bounds-put_openings-count c = put_within (lines-room (goal.at.slice_bounds
 pub put_openings-requires : goal.put_openings-requires
 put_openings-requires c =
     let s = (goal.at.put_openings-requires c).Start in
-    record { mapped = ((s.args.marks.now, s.requires.whole.0), s.requires.whole.1, s.requires.whole.2); list_in_bounds = put_room (lines-room s) c.put_slack-at.ensures }
+    record { mapped_items = ((s.args.marks.now, s.requires.whole_and_markable.0), s.requires.whole_and_markable.1, s.requires.whole_and_markable.2); lines_fit = put_room (lines-room s) c.put_slack-at.ensures }
 
 pub overflow_add-result : goal.overflow_add-result
 overflow_add-result c = omega (arith, put_end (lines-room (goal.at.overflow_add-result c).Start) c.put_slack-at.ensures c.put_openings.ensures)

@@ -16,7 +16,7 @@ found p =
 
 pub put_none-requires : goal.put_none-requires
 unfolding opened_line
-put_none-requires c = rw (length_none (found (goal.at.put_none-requires c).After-length_through-length) c.if-length.true) at c.requires.opened_in_bounds
+put_none-requires c = rw (length_none (found (goal.at.put_none-requires c).After-length_through-length) c.if-length.true) at c.requires.line_fits
 
 pub returns-then-length : goal.returns-then-length
 unfolding opened_line
@@ -24,7 +24,7 @@ returns-then-length c = rw (length_none (found (goal.at.returns-then-length c).A
 
 pub put_number_line-requires : goal.put_number_line-requires
 unfolding opened_line
-put_number_line-requires c = rw (length_some (found (goal.at.put_number_line-requires c).After-length_through-length) c.if-length.false) at c.requires.opened_in_bounds
+put_number_line-requires c = rw (length_some (found (goal.at.put_number_line-requires c).After-length_through-length) c.if-length.false) at c.requires.line_fits
 
 pub returns : goal.returns
 unfolding opened_line

@@ -83,8 +83,8 @@ bounds-work-set c = omega (arith, small (goal.at.bounds-work-set c).Start)
 pub returns : goal.returns
 returns c =
     let s = (goal.at.returns c).Start in record {
-      puts = λ N a goals few F.
+      goal_done = λ N a goals few F.
           put_one c.sum.result s.requires.0.small (has_below s.args.set s.args.i (length goals) few s.requires.1) s.requires.0.long
           (past_is F.filled s.args.i few s.requires.1 c.if-held_goals-eq1.way' c.sum.result (way-is (goal.at.returns c).Joined-held_goals-eq1 N a goals few F.filled) c.sum.ensures) F;
-      table_only = only_put s.args.work.now s.args.set s.args.i c.sum.result s.requires.0.small (small s);
+      outside_table_unchanged = only_put s.args.work.now s.args.set s.args.i c.sum.result s.requires.0.small (small s);
     }

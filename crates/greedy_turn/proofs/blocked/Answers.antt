@@ -25,8 +25,8 @@ open_item-requires c =
     let S = s.requires.0 in
     let I = s.requires.1 in
     let p = set_proper S s.args.marks.now I.marked in record {
-      fact = (p, I.below, S.small);
-      fact_2 = (linked_shaped p I.links, set_fit S s.args.marks.now s.args.work.now I.marked (omega (arith, I.long)), omega (arith, S.counted, S.eight), I.long);
+      proper_net_and_item = (p, I.below, S.small);
+      shaped_with_starts = (linked_shaped p I.links, set_fit S s.args.marks.now s.args.work.now I.marked (omega (arith, I.long)), omega (arith, S.counted, S.eight), I.long);
     }
 
 pub may_fit-requires : goal.may_fit-requires
@@ -36,8 +36,8 @@ may_fit-requires c =
     let t = c.open_item in
     let S = s.requires.0 in
     let I = s.requires.1 in record {
-      work_len = (t.auto.work ∙ I.long, omega (arith, S.counted, S.eight, R), omega (arith, S.target, S.few));
-      goals_len_bound = (S.eight, λ i h. omega (arith, I.entered i h, t.ensures.saves.beside (576 + i) (omega (arith, S.counted, S.eight)) (omega (arith, S.eight))));
+      work_and_turn_fit = (t.auto.work ∙ I.long, omega (arith, S.counted, S.eight, R), omega (arith, S.target, S.few));
+      goals_entered = (S.eight, λ i h. omega (arith, I.entered i h, t.ensures.saves.beside (576 + i) (omega (arith, S.counted, S.eight)) (omega (arith, S.eight))));
     }
 
 pub stays_open-requires : goal.stays_open-requires
@@ -46,8 +46,8 @@ stays_open-requires c =
     let R = length-take-le s.args.turn.rows s.args.places.now s.requires.2 in
     let S = s.requires.0 in
     let I = s.requires.1 in record {
-      fact = (set_proper S s.args.marks.now I.marked, set_goals S s.args.marks.now);
-      work_len = (c.open_item.auto.work ∙ I.long, S.target, S.small, omega (arith, S.counted, S.eight, R));
+      proper_net_and_goals = (set_proper S s.args.marks.now I.marked, set_goals S s.args.marks.now);
+      work_and_query_fit = (c.open_item.auto.work ∙ I.long, S.target, S.small, omega (arith, S.counted, S.eight, R));
     }
 
 pub returns-then-may_fit : goal.returns-then-may_fit
@@ -58,7 +58,7 @@ returns-then-may_fit c old e W B =
     let R = length-take-le s.args.turn.rows s.args.places.now s.requires.2 in
     let j = c.stays_open in
     judged_asked S (opening S old e I.marked I.below I.links.arcs) W c.open_item.ensures (sym R) j.new.work j.result
-    (sym (get_or-take s.args.turn.rows s.args.places.now 0 0 (omega (arith, S.counted, R)))) j.ensures.fact_2 j.ensures.fact_3 j.ensures.rows_back
+    (sym (get_or-take s.args.turn.rows s.args.places.now 0 0 (omega (arith, S.counted, R)))) j.ensures.tells_whether_blocked j.ensures.goals_noted_if_open j.ensures.rows_back_if_not
 
 pub returns : goal.returns
 returns c old e W B =
@@ -67,4 +67,4 @@ returns c old e W B =
     let I = s.requires.1 in
     let m = c.may_fit.ensures in
     judged_unmoved S (opening S old e I.marked I.below I.links.arcs) W c.open_item.ensures
-    (sym (length-take-le s.args.turn.rows s.args.places.now s.requires.2)) B (m.goals_value c.if-may_fit.false) (m.unmoved c.if-may_fit.false)
+    (sym (length-take-le s.args.turn.rows s.args.places.now s.requires.2)) B (m.not_a_goal_if_false c.if-may_fit.false) (m.unmoved_if_false c.if-may_fit.false)

@@ -15,7 +15,7 @@ pub fill_table-requires : goal.fill_table-requires
 fill_table-requires c =
     let s = c in
     let n = c.note_goals in
-    (table_room s.requires.fact.0 s.requires.fact.1 (omega (arith, n.auto.work, s.requires.in_bounds.0)) n.ensures.noted, s.requires.in_bounds.2)
+    (table_room s.requires.proper_net_and_goals.0 s.requires.proper_net_and_goals.1 (omega (arith, n.auto.work, s.requires.work_and_query_fit.0)) n.ensures.noted, s.requires.work_and_query_fit.2)
 
 pub returns : goal.returns
 returns c =
@@ -27,13 +27,13 @@ returns c =
     let goals = s.args.goals.now in
     let mid = n.new.work in
     let after = f.new.work in record {
-      fact_2 = λ R.
-          let F = filled_begun s.requires.fact.0 s.requires.fact.1 (rowed_kept s.requires.fact.0.few s.requires.fact.1.eight n.ensures.work_unchanged.0 R) n.ensures.noted in
-          let e = c.reach_goals.ensures N a.from goals refl s.requires.in_bounds.1 (f.ensures.fills_table N a.from goals refl F) in
-          fits_held (graph N) a.from a.to a.cap (closed N) goals s.requires.in_bounds.2 ∙ ap (λ (x : ℕ). leb x a.cap) (sym e);
-      fact_3 = record {
-        noted = noted_kept N a.cap goals mid after s.requires.fact.1.eight f.ensures.table_only.front n.ensures.noted;
-        front = front_less mid after f.ensures.table_only.front ∙ n.ensures.work_unchanged.0;
+      tells_whether_fits = λ R.
+          let F = filled_begun s.requires.proper_net_and_goals.0 s.requires.proper_net_and_goals.1 (rowed_kept s.requires.proper_net_and_goals.0.few s.requires.proper_net_and_goals.1.eight n.ensures.only_notes_written.0 R) n.ensures.noted in
+          let e = c.reach_goals.ensures N a.from goals refl s.requires.work_and_query_fit.1 (f.ensures.fills_table N a.from goals refl F) in
+          fits_held (graph N) a.from a.to a.cap (closed N) goals s.requires.work_and_query_fit.2 ∙ ap (λ (x : ℕ). leb x a.cap) (sym e);
+      goals_noted = record {
+        noted = noted_kept N a.cap goals mid after s.requires.proper_net_and_goals.1.eight f.ensures.outside_table_unchanged.front n.ensures.noted;
+        front = front_less mid after f.ensures.outside_table_unchanged.front ∙ n.ensures.only_notes_written.0;
       };
-      work_unchanged = f.ensures.table_only.behind ∙ drop_further 592 3072 mid s.args.work.now (omega arith) n.ensures.work_unchanged.1;
+      kept_rows_unchanged = f.ensures.outside_table_unchanged.behind ∙ drop_further 592 3072 mid s.args.work.now (omega arith) n.ensures.only_notes_written.1;
     }

@@ -4,7 +4,7 @@ use mathlib.Core.Bool.{true≢false}
 use Rattle.greedy_turn.proofs.may_fit.Goals as goal
 
 pub returns-then-is_listed : goal.returns-then-is_listed
-returns-then-is_listed c = record { goals_value = λ q. absurd (true≢false q); unmoved = λ q. absurd (true≢false q) }
+returns-then-is_listed c = record { not_a_goal_if_false = λ q. absurd (true≢false q); unmoved_if_false = λ q. absurd (true≢false q) }
 
 pub returns : goal.returns
-returns c = record { goals_value = λ _. sym c.is_listed.ensures ∙ c.if-is_listed.false; unmoved = λ q. c.moved.ensures.0 q }
+returns c = record { not_a_goal_if_false = λ _. sym c.is_listed.ensures ∙ c.if-is_listed.false; unmoved_if_false = λ q. c.moved.ensures.0 q }

@@ -14,15 +14,15 @@ returns-then-fits_limit c =
     let b = c.put_back.ensures in
     let work = s.args.work.now in
     let mid = f.new.work in record {
-      fact_2 = λ R. f.ensures.fact_2 R ∙ c.if-fits_limit.true;
-      fact_3 = λ q. absurd (false≢true q);
-      rows_back = λ _. record {
-        back = λ i h o v k. b.rows.back i h o v k ∙ behind 3072 mid work f.ensures.work_unchanged (3072 + i * 64 + v) (omega arith);
-        same = λ i h o v k. b.rows.same i h o v k ∙ same_front 576 work mid f.ensures.fact_3.front (i * 64 + v) (omega (arith, s.requires.work_len.3));
+      tells_whether_blocked = λ R. f.ensures.tells_whether_fits R ∙ c.if-fits_limit.true;
+      goals_noted_if_open = λ q. absurd (false≢true q);
+      rows_back_if_not = λ _. record {
+        back = λ i h o v k. b.rows.back i h o v k ∙ behind 3072 mid work f.ensures.kept_rows_unchanged (3072 + i * 64 + v) (omega arith);
+        same = λ i h o v k. b.rows.same i h o v k ∙ same_front 576 work mid f.ensures.goals_noted.front (i * 64 + v) (omega (arith, s.requires.work_and_query_fit.3));
       };
     }
 
 pub returns : goal.returns
 returns c =
     let f = c.fits_limit in
-    record { fact_2 = λ R. f.ensures.fact_2 R ∙ c.if-fits_limit.false; fact_3 = λ _. f.ensures.fact_3; rows_back = λ q. absurd (true≢false q) }
+    record { tells_whether_blocked = λ R. f.ensures.tells_whether_fits R ∙ c.if-fits_limit.false; goals_noted_if_open = λ _. f.ensures.goals_noted; rows_back_if_not = λ q. absurd (true≢false q) }

@@ -11,14 +11,14 @@ slice_bounds-row_from-end-2 c = sym (length-take-le 64 c.args.rows.now (omega ar
 pub row_from-requires : goal.row_from-requires
 row_from-requires c =
     let w = c.requires.0 in
-    record { proper = (w.proper, omega (arith, w.sized.0, w.few)); row_len = (length-take-le 64 c.args.rows.now (omega arith), w.source, omega (arith, w.limit)) }
+    record { proper_net = (w.proper, omega (arith, w.sized.0, w.few)); row_and_start_fit = (length-take-le 64 c.args.rows.now (omega arith), w.source, omega (arith, w.limit)) }
 
 pub row_to-requires : goal.row_to-requires
 row_to-requires c =
     let w = c.requires.0 in
     let f = c.row_from in
     let l = f.auto.row ∙ length-take-le 64 c.args.rows.now (omega arith) in
-    record { proper = (w.proper, omega (arith, w.sized.0, w.few)); row_len = (second_long f.new.row c.args.rows.now l c.requires.1, w.target, omega (arith, w.limit)) }
+    record { proper_net = (w.proper, omega (arith, w.sized.0, w.few)); row_and_end_fit = (second_long f.new.row c.args.rows.now l c.requires.1, w.target, omega (arith, w.limit)) }
 
 pub returns : goal.returns
 returns c =

@@ -12,13 +12,13 @@ use Rattle.item_length.proofs.least_through.Goals as goal
 use Rattle.item_length.proofs.least_through.Goals.{Start}
 
 joins : (s : goal.Start) → Joins s.args.query.nodes s.args.arcs.now
-joins s i h = (s.requires.fact.0.tails i h, s.requires.fact.0.heads i h)
+joins s i h = (s.requires.proper_net_and_item.0.tails i h, s.requires.proper_net_and_item.0.heads i h)
 
 pub entry-entry-requires : goal.entry-entry-requires
-entry-entry-requires c = let s = (goal.at.entry-entry-requires c).Start in (joins s, s.requires.fact.0.few, s.requires.fact.2)
+entry-entry-requires c = let s = (goal.at.entry-entry-requires c).Start in (joins s, s.requires.proper_net_and_item.0.few, s.requires.proper_net_and_item.2)
 
 pub exit-exit-requires : goal.exit-exit-requires
-exit-exit-requires c = let s = (goal.at.exit-exit-requires c).Start in (joins s, s.requires.fact.2)
+exit-exit-requires c = let s = (goal.at.exit-exit-requires c).Start in (joins s, s.requires.proper_net_and_item.2)
 
 pub returns : goal.returns
 returns c =
@@ -31,4 +31,4 @@ returns c =
     let f = c.row_from.ensures.0 _ e.1 ∙ ap (λ (v : ℕ). held cap (least G shut [] s.args.query.from v)) e.0 in
     let t = c.row_to.ensures.0 _ x.1 ∙ ap (λ (v : ℕ). held cap (least G shut [] v s.args.query.to)) x.0 in
     c.sum.ensures _ _ (c.sum-past.ensures _ _ f c.own-own.ensures) t
-    ∙ ap (held cap) (sym (through_one G shut s.args.item s.args.query.from s.args.query.to (item_at (net_of s.args.query.nodes s.args.arcs.now s.args.marks.now) s.args.item s.requires.fact.2)))
+    ∙ ap (held cap) (sym (through_one G shut s.args.item s.args.query.from s.args.query.to (item_at (net_of s.args.query.nodes s.args.arcs.now s.args.marks.now) s.args.item s.requires.proper_net_and_item.2)))

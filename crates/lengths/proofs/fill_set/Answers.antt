@@ -34,14 +34,14 @@ loop-rest-preserved c =
     let l = c.loop-rest in
     let t = c.put in (
       t.auto.work ∙ l.invariant.0,
-      only_then l.invariant.1 t.ensures.table_only,
+      only_then l.invariant.1 t.ensures.outside_table_unchanged,
       count_trailing_zeros 32 l.rest + 1,
       rest_more l.invariant.3 s.requires.0.small (omega arith),
-      λ N a goals few F. t.ensures.puts N a goals few (set_next (next (goal.at.loop-rest-preserved c).In-loop-rest) (l.invariant.4 N a goals few F)),
+      λ N a goals few F. t.ensures.goal_done N a goals few (set_next (next (goal.at.loop-rest-preserved c).In-loop-rest) (l.invariant.4 N a goals few F)),
     )
 
 pub returns : goal.returns
 returns c = let l = c.loop-rest in record {
   fills_set = λ N a goals few F. set_done l.invariant.3 c.loop-rest-test.false (l.invariant.4 N a goals few F);
-  table_only = l.invariant.1;
+  outside_table_unchanged = l.invariant.1;
 }

@@ -29,7 +29,7 @@ loop-set-preserved c =
     let t = c.fill_set in (
       omega arith,
       t.auto.work ∙ l.invariant.1,
-      only_then l.invariant.2 t.ensures.table_only,
+      only_then l.invariant.2 t.ensures.outside_table_unchanged,
       λ N a goals q F. t.ensures.fills_set N a goals (rw q (set-of-goals (goal.at.loop-set-preserved c).In-loop-set)) (l.invariant.3 N a goals q F),
     )
 
@@ -40,5 +40,5 @@ returns c =
     let k : l.set ≡ 2 ^ s.args.count = omega (arith, c.bit-end.ensures) in
     record {
       fills_table = λ N a goals q F. subst (λ (n : ℕ). Filled N s.args.cap a goals n l.work) k (l.invariant.3 N a goals q F);
-      table_only = l.invariant.2;
+      outside_table_unchanged = l.invariant.2;
     }

@@ -11,7 +11,7 @@ pub fill_table-requires : goal.fill_table-requires
 fill_table-requires c =
     let s = c in
     let n = c.note_goals in
-    (table_room s.requires.fact.0 s.requires.fact.1 (omega (arith, n.auto.work, c.start_rows.auto.work, s.requires.in_bounds.0)) n.ensures.noted, s.requires.in_bounds.3)
+    (table_room s.requires.proper_net_and_goals.0 s.requires.proper_net_and_goals.1 (omega (arith, n.auto.work, c.start_rows.auto.work, s.requires.work_and_query_fit.0)) n.ensures.noted, s.requires.work_and_query_fit.3)
 
 pub returns : goal.returns
 unfolding held
@@ -22,11 +22,11 @@ returns c =
     let f = c.fill_table in
     let N = net_of s.args.query.nodes s.args.arcs.now s.args.marks.now in
     let goals = s.args.goals.now in
-    let R = rowed_kept s.requires.fact.0.few s.requires.fact.1.eight n.ensures.work_unchanged.0 r.ensures.fact_2 in
-    let F = filled_begun s.requires.fact.0 s.requires.fact.1 R n.ensures.noted in
+    let R = rowed_kept s.requires.proper_net_and_goals.0.few s.requires.proper_net_and_goals.1.eight n.ensures.only_notes_written.0 r.ensures.rows_filled in
+    let F = filled_begun s.requires.proper_net_and_goals.0 s.requires.proper_net_and_goals.1 R n.ensures.noted in
     let G = f.ensures.fills_table N s.args.query.from goals refl F in record {
-      result_value = c.reach_goals.ensures N s.args.query.from goals refl s.requires.in_bounds.2 G;
-      fact_2 = G.rowed;
-      work_unchanged = f.ensures.table_only.behind ∙ drop_further 592 3072 n.new.work r.new.work (omega arith) n.ensures.work_unchanged.1
-          ∙ drop_further 576 3072 r.new.work s.args.work.now (omega arith) r.ensures.work_unchanged;
+      least_length = c.reach_goals.ensures N s.args.query.from goals refl s.requires.work_and_query_fit.2 G;
+      rows_filled = G.rowed;
+      kept_rows_unchanged = f.ensures.outside_table_unchanged.behind ∙ drop_further 592 3072 n.new.work r.new.work (omega arith) n.ensures.only_notes_written.1
+          ∙ drop_further 576 3072 r.new.work s.args.work.now (omega arith) r.ensures.behind_rows_unchanged;
     }

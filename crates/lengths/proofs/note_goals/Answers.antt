@@ -55,4 +55,4 @@ pub returns : goal.returns
 returns c =
     let l = c.loop-i in
     let q : l.i ≡ length c.args.goals.now = omega arith in
-    record { noted = rw q at l.invariant.2; work_unchanged = (l.invariant.3, l.invariant.4) }
+    record { noted = rw q at l.invariant.2; only_notes_written = (l.invariant.3, l.invariant.4) }

@@ -10,12 +10,12 @@ use Rattle.lengths.proofs.set_starts.Goals as goal
 pub loop-i-init : goal.loop-i-init
 loop-i-init c =
     let s = c in
-    (omega arith, refl, start_begun (graph_of s.args.nodes s.args.arcs.now) s.args.from s.args.goals.now s.args.starts.now s.requires.joins.2 (omega arith))
+    (omega arith, refl, start_begun (graph_of s.args.nodes s.args.arcs.now) s.args.from s.args.goals.now s.args.starts.now s.requires.arcs_join_nodes.2 (omega arith))
 
 pub exit-requires : goal.exit-requires
 exit-requires c =
     let s = c in
-    (s.requires.joins.0, s.requires.by_index c.loop-i.i c.loop-i-test.true)
+    (s.requires.arcs_join_nodes.0, s.requires.goals_are_items c.loop-i.i c.loop-i-test.true)
 
 pub bounds-starts-i : goal.bounds-starts-i
 bounds-starts-i c =

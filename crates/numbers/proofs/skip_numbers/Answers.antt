@@ -7,10 +7,10 @@ pub loop-j-init : goal.loop-j-init
 loop-j-init c = (go_start _ _ _, λ h. h)
 
 pub returns-in-Ends : goal.returns-in-Ends
-returns-in-Ends c = record { section_is = (go_stops c.loop-j.invariant.0 c.loop-j-test.true c.in-Ends.ensures.0).0; result_in_bounds = λ _. omega arith }
+returns-in-Ends c = record { section_told = (go_stops c.loop-j.invariant.0 c.loop-j-test.true c.in-Ends.ensures.0).0; ends_inside = λ _. omega arith }
 
 pub returns-in-Overlong : goal.returns-in-Overlong
-returns-in-Overlong c = record { section_is = (go_stops c.loop-j.invariant.0 c.loop-j-test.true c.in-Overlong.ensures.0).0; result_in_bounds = λ _. omega arith }
+returns-in-Overlong c = record { section_told = (go_stops c.loop-j.invariant.0 c.loop-j-test.true c.in-Overlong.ensures.0).0; ends_inside = λ _. omega arith }
 
 pub loop-j-preserved : goal.loop-j-preserved
 loop-j-preserved c = (
@@ -19,4 +19,4 @@ loop-j-preserved c = (
 )
 
 pub returns : goal.returns
-returns c = record { section_is = (go_done c.loop-j.invariant.0 c.loop-j-test.false).0; result_in_bounds = c.loop-j.invariant.1 }
+returns c = record { section_told = (go_done c.loop-j.invariant.0 c.loop-j-test.false).0; ends_inside = c.loop-j.invariant.1 }

@@ -15,9 +15,9 @@ list_reasons-requires c =
     let f = c.any_forbidden.ensures in
     rw (Q.nodes, Q.from, Q.to, Q.cap)
     (record {
-      fact = (W.proper, U.fit, omega (arith, W.sized.0, W.few), omega (arith, W.sized.1, W.proper.few, W.few));
+      proper_net_and_goals = (W.proper, U.fit, omega (arith, W.sized.0, W.few), omega (arith, W.sized.1, W.proper.few, W.few));
       listable = (c.requires.blamed.1, omega (arith, c.requires.blamed.2, W.sized.0, W.proper.few, W.few), W.source, W.target, omega (arith, W.limit));
-      fact_2 = (U.unmet, c.requires.fact (sym f ∙ c.if-any_forbidden.true));
+      no_walk_fits = (U.unmet, c.requires.rows_ready_if_forbidden (sym f ∙ c.if-any_forbidden.true));
     })
 
 pub returns-then-any_forbidden : goal.returns-then-any_forbidden

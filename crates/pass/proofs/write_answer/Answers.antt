@@ -34,7 +34,7 @@ pub ready_rows-requires : goal.ready_rows-requires
 ready_rows-requires c =
     let j = c.find_verdict-verdict in
     let u = blamed c.requires.0 j.ensures c.if-verdict-eq0.false in
-    record { sought = (whole_sought u.whole u.fit, omega (arith, c.requires.1, j.auto.scratch)); fact = j.ensures.rowed }
+    record { sought = (whole_sought u.whole u.fit, omega (arith, c.requires.1, j.auto.scratch)); rows_ready_for_three = j.ensures.rowed }
 
 pub slice_bounds-list_for_sheet-end : goal.slice_bounds-list_for_sheet-end
 slice_bounds-list_for_sheet-end c = goals-long (goal.at.slice_bounds-list_for_sheet-end c).After-find_verdict-verdict
@@ -43,7 +43,7 @@ pub list_for_sheet-n-requires : goal.list_for_sheet-n-requires
 list_for_sheet-n-requires c =
     let j = c.find_verdict-verdict in
     let t = c.ready_rows in
-    record { blamed = (blamed c.requires.0 j.ensures c.if-verdict-eq0.false, omega (arith, c.requires.1, t.auto.scratch, j.auto.scratch), omega arith); fact = t.ensures }
+    record { blamed = (blamed c.requires.0 j.ensures c.if-verdict-eq0.false, omega (arith, c.requires.1, t.auto.scratch, j.auto.scratch), omega arith); rows_ready_if_forbidden = t.ensures }
 
 pub slice_bounds-write_slip-end : goal.slice_bounds-write_slip-end
 slice_bounds-write_slip-end c = goals-long (goal.at.slice_bounds-write_slip-end c).After-find_verdict-verdict
@@ -57,7 +57,7 @@ slice_bounds-write_slip-end-2 c = let r = c.list_for_sheet-n in sym (length-take
 pub write_slip-requires : goal.write_slip-requires
 write_slip-requires c =
     let whole = slip_room c.requires.0 c.find_verdict-verdict.ensures c.if-verdict-eq0.false _ c.requires.2 _ c.list_for_sheet-n.ensures in
-    record { reasons_value = whole.0; reasons_in_bounds = whole.1 }
+    record { numbers_small = whole.0; slip_fits = whole.1 }
 
 pub returns : goal.returns
 returns c =

@@ -20,13 +20,13 @@ pub returns-then-forced-item-eq1 : goal.returns-then-forced-item-eq1
 unfolding mark_of
 returns-then-forced-item-eq1 c =
     mark_open (sheet_of c.args.header c.args.arcs.now c.args.marks.now) c.args.item 1 true c.if-mark-ne-OPEN.false (sym c.fits_item.ensures ∙ c.if-not-fits_item.false)
-    (sym (forced_one (sheet_of c.args.header c.args.arcs.now c.args.marks.now) c.requires.forced_nodes c.requires.rows.0.whole.proper.few c.args.item c.if-item-header.true) ∙ eq-eqb _ 1 c.if-forced-item-eq1.true) refl
+    (sym (forced_one (sheet_of c.args.header c.args.arcs.now c.args.marks.now) c.requires.forced_nodes c.requires.rows_of_sheet.0.whole.proper.few c.args.item c.if-item-header.true) ∙ eq-eqb _ 1 c.if-forced-item-eq1.true) refl
 
 pub returns-else-forced-item-eq1 : goal.returns-else-forced-item-eq1
 unfolding mark_of
 returns-else-forced-item-eq1 c =
     mark_open (sheet_of c.args.header c.args.arcs.now c.args.marks.now) c.args.item 0 false c.if-mark-ne-OPEN.false (sym c.fits_item.ensures ∙ c.if-not-fits_item.false)
-    (sym (forced_one (sheet_of c.args.header c.args.arcs.now c.args.marks.now) c.requires.forced_nodes c.requires.rows.0.whole.proper.few c.args.item c.if-item-header.true) ∙ ne_eqb _ 1 c.if-forced-item-eq1.false) refl
+    (sym (forced_one (sheet_of c.args.header c.args.arcs.now c.args.marks.now) c.requires.forced_nodes c.requires.rows_of_sheet.0.whole.proper.few c.args.item c.if-item-header.true) ∙ ne_eqb _ 1 c.if-forced-item-eq1.false) refl
 
 pub returns-else-item-header : goal.returns-else-item-header
 unfolding mark_of

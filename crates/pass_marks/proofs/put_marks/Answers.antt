@@ -14,7 +14,7 @@ pub slice_bounds-new_mark-end : goal.slice_bounds-new_mark-end
 slice_bounds-new_mark-end c = sym c.forced_nodes-forced.ensures.size
 
 pub new_mark-requires : goal.new_mark-requires
-new_mark-requires c = record { rows = (c.requires.0, c.loop-i-test.true); forced_nodes = c.forced_nodes-forced.ensures }
+new_mark-requires c = record { rows_of_sheet = (c.requires.0, c.loop-i-test.true); forced_nodes = c.forced_nodes-forced.ensures }
 
 pub bounds-out-i : goal.bounds-out-i
 bounds-out-i c = omega (arith, marking_long c.requires.0.whole c.args.out.now c.loop-i.out c.loop-i.i c.loop-i.invariant c.requires.1, c.requires.1, c.loop-i-test.true)

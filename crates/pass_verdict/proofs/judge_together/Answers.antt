@@ -12,32 +12,32 @@ use Rattle.pass_verdict.proofs.judge_together.Goals as goal
 pub returns-then-count-eq0 : goal.returns-then-count-eq0
 returns-then-count-eq0 c =
     let q = c.required_items-count in
-    judged_zero c.args.header c.args.arcs.now c.args.marks.now _ _ c.requires.fact.0 c.requires.fact.1 (nothing_required _ c.requires.fact.0 (sym q.ensures.counted ∙ c.if-count-eq0.true))
+    judged_zero c.args.header c.args.arcs.now c.args.marks.now _ _ c.requires.each_item_met.0 c.requires.each_item_met.1 (nothing_required _ c.requires.each_item_met.0 (sym q.ensures.counted ∙ c.if-count-eq0.true))
 
 pub slice_bounds-fits_goals-end : goal.slice_bounds-fits_goals-end
 slice_bounds-fits_goals-end c =
     let q = c.required_items-count in
-    omega (arith, q.ensures.counted, c.requires.whole.1, c.requires.whole.0.eight, q.auto.list)
+    omega (arith, q.ensures.counted, c.requires.whole_with_room.1, c.requires.whole_with_room.0.eight, q.auto.list)
 
 pub slice_bounds-fits_goals-end-2 : goal.slice_bounds-fits_goals-end-2
-slice_bounds-fits_goals-end-2 c = c.required_items-count.ensures.counted ∙ sym (ap length (room_front c.required_items-count.ensures (omega (arith, c.requires.whole.1, c.requires.whole.0.eight))))
+slice_bounds-fits_goals-end-2 c = c.required_items-count.ensures.counted ∙ sym (ap length (room_front c.required_items-count.ensures (omega (arith, c.requires.whole_with_room.1, c.requires.whole_with_room.0.eight))))
 
 pub fits_goals-requires : goal.fits_goals-requires
 fits_goals-requires c =
-    (rw (room_front c.required_items-count.ensures (omega (arith, c.requires.whole.1, c.requires.whole.0.eight))) (required_sought c.requires.whole.0), c.requires.whole.2)
+    (rw (room_front c.required_items-count.ensures (omega (arith, c.requires.whole_with_room.1, c.requires.whole_with_room.0.eight))) (required_sought c.requires.whole_with_room.0), c.requires.whole_with_room.2)
 
 pub returns-then-fits_goals : goal.returns-then-fits_goals
 unfolding fits_sheet is_forbidden
 returns-then-fits_goals c =
     let f = c.fits_goals in
-    judged_zero c.args.header c.args.arcs.now c.args.marks.now _ _ c.requires.fact.0 c.requires.fact.1
-    (ap (fits_sheet (sheet_of c.args.header c.args.arcs.now c.args.marks.now)) (sym (room_front c.required_items-count.ensures (omega (arith, c.requires.whole.1, c.requires.whole.0.eight)))) ∙ sym f.ensures.result_value ∙ c.if-fits_goals.true)
+    judged_zero c.args.header c.args.arcs.now c.args.marks.now _ _ c.requires.each_item_met.0 c.requires.each_item_met.1
+    (ap (fits_sheet (sheet_of c.args.header c.args.arcs.now c.args.marks.now)) (sym (room_front c.required_items-count.ensures (omega (arith, c.requires.whole_with_room.1, c.requires.whole_with_room.0.eight)))) ∙ sym f.ensures.tells_whether_fits ∙ c.if-fits_goals.true)
 
 pub returns : goal.returns
 unfolding fits_sheet is_forbidden
 returns c =
     let q = c.required_items-count in
     let f = c.fits_goals in
-    let e = (room_front c.required_items-count.ensures (omega (arith, c.requires.whole.1, c.requires.whole.0.eight))) in
-    judged_three c.args.header c.args.arcs.now c.args.marks.now _ _ c.requires.fact.0 c.requires.fact.1 q.result
-    (ap (fits_sheet (sheet_of c.args.header c.args.arcs.now c.args.marks.now)) (sym e) ∙ sym f.ensures.result_value ∙ c.if-fits_goals.false) e (omega (arith, q.ensures.counted, c.requires.whole.0.eight)) f.ensures.fact
+    let e = (room_front c.required_items-count.ensures (omega (arith, c.requires.whole_with_room.1, c.requires.whole_with_room.0.eight))) in
+    judged_three c.args.header c.args.arcs.now c.args.marks.now _ _ c.requires.each_item_met.0 c.requires.each_item_met.1 q.result
+    (ap (fits_sheet (sheet_of c.args.header c.args.arcs.now c.args.marks.now)) (sym e) ∙ sym f.ensures.tells_whether_fits ∙ c.if-fits_goals.false) e (omega (arith, q.ensures.counted, c.requires.whole_with_room.0.eight)) f.ensures.rows_filled

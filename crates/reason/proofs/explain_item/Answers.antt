@@ -34,12 +34,12 @@ returns-then-not-is_pruned c =
 pub ready_rows-requires : goal.ready_rows-requires
 ready_rows-requires c =
     let u = unmet (goal.at.ready_rows-requires c).Else-not-is_pruned in
-    record { sought = (whole_sought u.whole u.fit, omega (arith, c.requires.1, c.is_pruned.auto.scratch)); fact = λ q. absurd (omega arith) }
+    record { sought = (whole_sought u.whole u.fit, omega (arith, c.requires.1, c.is_pruned.auto.scratch)); rows_ready_for_three = λ q. absurd (omega arith) }
 
 pub list_for_sheet-n-requires : goal.list_for_sheet-n-requires
 list_for_sheet-n-requires c =
     let t = c.ready_rows in
-    record { blamed = (unmet (goal.at.list_for_sheet-n-requires c).Else-not-is_pruned, omega (arith, c.requires.1, t.auto.scratch, c.is_pruned.auto.scratch), omega arith); fact = t.ensures }
+    record { blamed = (unmet (goal.at.list_for_sheet-n-requires c).Else-not-is_pruned, omega (arith, c.requires.1, t.auto.scratch, c.is_pruned.auto.scratch), omega arith); rows_ready_if_forbidden = t.ensures }
 
 pub slice_bounds-list-end : goal.slice_bounds-list-end
 slice_bounds-list-end c = reasons-long (goal.at.slice_bounds-list-end c).After-list_for_sheet-n
@@ -50,7 +50,7 @@ slice_bounds-write_slip-end-2 c = let r = c.list_for_sheet-n in sym (length-take
 pub write_slip-requires : goal.write_slip-requires
 write_slip-requires c =
     let whole = item_room c.requires.0 c.args.item c.if-header-item.false _ c.requires.2 _ c.list_for_sheet-n.ensures in
-    record { reasons_value = whole.0; reasons_in_bounds = whole.1 }
+    record { numbers_small = whole.0; slip_fits = whole.1 }
 
 pub returns : goal.returns
 returns c =

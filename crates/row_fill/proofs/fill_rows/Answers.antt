@@ -34,8 +34,8 @@ fill_row-requires c =
     let s = c in
     let l = c.loop-i in
     let h = c.loop-i-test.true in record {
-      joins = (s.requires.0, c.chained-chains.ensures.0);
-      row_len = (
+      arcs_chained = (s.requires.0, c.chained-chains.ensures.0);
+      row_and_start_fit = (
         mid_len (l.i * 64) (l.i * 64 + 64) l.work (omega (arith, s.requires.1.room)) ∙ omega arith,
         s.requires.1.places l.i h,
         s.requires.1.marked l.i h,
@@ -60,7 +60,7 @@ loop-i-preserved c =
       rest_more l.i l.work ys zs room long s.args.work.now (ap (λ (n : ℕ). drop n (drop at l.work)) k) l.invariant.2,
       λ N S.
           rows_more l.i l.work ys zs room long N s.args.cap s.args.starts.now S.proper.few
-          (t.ensures.row_is N (record { proper = S.proper; marked = S.marked; packed = S.packed; node = S.nodes l.i h })) (l.invariant.3 N S),
+          (t.ensures.least_lengths N (record { proper = S.proper; marked = S.marked; packed = S.packed; node = S.nodes l.i h })) (l.invariant.3 N S),
       away_more l.i l.work ys zs room long s.args.arcs.now s.args.starts.now t.ensures.away_missing l.invariant.4,
     )
 
@@ -69,7 +69,7 @@ returns c =
     let s = c in
     let l = c.loop-i in
     let q : l.i ≡ length s.args.starts.now = omega arith in record {
-      fact = λ N S. subst (λ (n : ℕ). RowsAre N s.args.cap s.args.starts.now n l.work) q (l.invariant.3 N S);
-      work_after = subst (λ (n : ℕ). drop (n * 64) l.work ≡ drop (n * 64) s.args.work.now) q l.invariant.2;
-      fact_2 = λ j h. l.invariant.4 j (omega arith);
+      rows_filled = λ N S. subst (λ (n : ℕ). RowsAre N s.args.cap s.args.starts.now n l.work) q (l.invariant.3 N S);
+      behind_rows_unchanged = subst (λ (n : ℕ). drop (n * 64) l.work ≡ drop (n * 64) s.args.work.now) q l.invariant.2;
+      away_missing = λ j h. l.invariant.4 j (omega arith);
     }

@@ -14,7 +14,7 @@ pub chained-chains-requires : goal.chained-chains-requires
 chained-chains-requires c =
     let s = c in
     let t = c.pack-used in
-    (packed_joins s.requires.proper.0 t.ensures.1, omega (arith, length-take-le t.result t.new.packed t.ensures.0, t.ensures.0, t.auto.packed))
+    (packed_joins s.requires.proper_net.0 t.ensures.1, omega (arith, length-take-le t.result t.new.packed t.ensures.0, t.ensures.0, t.auto.packed))
 
 pub slice_bounds-fill_row-end : goal.slice_bounds-fill_row-end
 slice_bounds-fill_row-end c = sym (length-take-le c.pack-used.result c.pack-used.new.packed c.pack-used.ensures.0)
@@ -23,8 +23,8 @@ pub fill_row-requires : goal.fill_row-requires
 fill_row-requires c =
     let s = c in
     record {
-      joins = (packed_joins s.requires.proper.0 c.pack-used.ensures.1, c.chained-chains.ensures.0);
-      row_len = (s.requires.row_len.0, omega (arith, s.requires.proper.0.few), omega (arith, s.requires.proper.0.marked), s.requires.row_len.2);
+      arcs_chained = (packed_joins s.requires.proper_net.0 c.pack-used.ensures.1, c.chained-chains.ensures.0);
+      row_and_start_fit = (s.requires.row_and_start_fit.0, omega (arith, s.requires.proper_net.0.few), omega (arith, s.requires.proper_net.0.marked), s.requires.row_and_start_fit.2);
     }
 
 pub returns : goal.returns
@@ -32,6 +32,6 @@ returns c =
     let s = c in
     let t = c.fill_row in
     let P = c.pack-used.ensures.1 in (
-      t.ensures.row_is (net_of s.args.nodes s.args.arcs.now s.args.marks.now) (record { proper = s.requires.proper.0; marked = refl; packed = P; node = s.requires.row_len.1 }),
-      λ v h l. t.ensures.away_missing v l (behind_away s.requires.proper.0 P s.requires.row_len.1 h),
+      t.ensures.least_lengths (net_of s.args.nodes s.args.arcs.now s.args.marks.now) (record { proper = s.requires.proper_net.0; marked = refl; packed = P; node = s.requires.row_and_start_fit.1 }),
+      λ v h l. t.ensures.away_missing v l (behind_away s.requires.proper_net.0 P s.requires.row_and_start_fit.1 h),
     )

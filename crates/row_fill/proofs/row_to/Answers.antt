@@ -17,8 +17,8 @@ row_from-requires c =
     let s = c in
     let t = c.turn in
     record {
-      proper = (turned_proper s.args.nodes s.args.arcs.now t.new.back s.args.marks.now (omega (arith, t.auto.back)) t.ensures s.requires.proper.0, rw (length-take-le (length s.args.arcs.now) t.new.back (omega (arith, t.auto.back))) s.requires.proper.1);
-      row_len = s.requires.row_len;
+      proper_net = (turned_proper s.args.nodes s.args.arcs.now t.new.back s.args.marks.now (omega (arith, t.auto.back)) t.ensures s.requires.proper_net.0, rw (length-take-le (length s.args.arcs.now) t.new.back (omega (arith, t.auto.back))) s.requires.proper_net.1);
+      row_and_start_fit = s.requires.row_and_end_fit;
     }
 
 pub returns : goal.returns

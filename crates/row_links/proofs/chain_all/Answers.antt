@@ -67,6 +67,6 @@ returns c =
     let l = c.loop-node in
     let l₂ = c.loop-arc in
     let q : l₂.arc ≡ s.args.count = omega arith in record {
-      fact = (l₂.invariant.2 ∙ l.invariant.2, rw q at (chain_same (tail_in l.packed) (tail_in s.args.packed.now) (λ k h. front_same l.packed s.args.packed.now l.invariant.2 k (omega arith)) l₂.invariant.3));
-      packed_unchanged = rw (← q) (l₂.invariant.4 ∙ drop_further 1600 (1600 + l₂.arc) l.packed s.args.packed.now (omega arith) l.invariant.4);
+      arcs_chained = (l₂.invariant.2 ∙ l.invariant.2, rw q at (chain_same (tail_in l.packed) (tail_in s.args.packed.now) (λ k h. front_same l.packed s.args.packed.now l.invariant.2 k (omega arith)) l₂.invariant.3));
+      behind_chains_unchanged = rw (← q) (l₂.invariant.4 ∙ drop_further 1600 (1600 + l₂.arc) l.packed s.args.packed.now (omega arith) l.invariant.4);
     }

@@ -19,4 +19,4 @@ returns c =
     let t = c.pack-count in
     let p = c.chain_all in
     all_linked (net_of s.args.nodes s.args.arcs.now s.args.marks.now) s.args.packed.now t.new.packed p.new.packed t.result s.requires.1 s.requires.2
-    t.ensures.3 p.ensures.fact.0 p.ensures.fact.1 p.ensures.packed_unchanged
+    t.ensures.3 p.ensures.arcs_chained.0 p.ensures.arcs_chained.1 p.ensures.behind_chains_unchanged

@@ -20,7 +20,7 @@ returns-then-not-may_cut c =
     let i = s.args.row.number in
     let t = rw (part_row s.args.work.now i) at c.may_cut.ensures in
     let f = t.0 c.if-not-may_cut.true in
-    record { fact = left f.0 f.1; fact_2 = (λ N A h M k. k f.0 f.1, λ v a. refl) }
+    record { row_kept_if_cut = left f.0 f.1; row_mended = (λ N A h M k. k f.0 f.1, λ v a. refl) }
 
 pub slice_bounds-mend_row-end : goal.slice_bounds-mend_row-end
 slice_bounds-mend_row-end c = let s = c in sym (length-take-le (s.args.row.count * 3) s.args.packed.now (omega (arith, s.requires.shaped.0.room, s.requires.shaped.0.long)))
@@ -31,8 +31,8 @@ mend_row-requires c =
     let i = s.args.row.number in
     let packed = s.args.packed.now in
     let mid = c.keep_row.new.work in record {
-      joins = (s.requires.shaped.0.joins, rw (all-behind packed) s.requires.shaped.0.chained);
-      row_len = (mid_len (i * 64) (i * 64 + 64) mid (omega (arith, c.keep_row.auto.work)) ∙ omega arith, s.requires.from_bound.0, s.requires.from_bound.1, s.requires.from_bound.2);
+      arcs_chained = (s.requires.shaped.0.joins, rw (all-behind packed) s.requires.shaped.0.chained);
+      row_and_start_fit = (mid_len (i * 64) (i * 64 + 64) mid (omega (arith, c.keep_row.auto.work)) ∙ omega arith, s.requires.start_and_change_fit.0, s.requires.start_and_change_fit.1, s.requires.start_and_change_fit.2);
     }
 
 pub returns : goal.returns
@@ -52,6 +52,6 @@ returns c =
     let w = row_written i s.args.work.now mid ys zs s.requires.shaped.1 s.requires.shaped.2 long size rest P in
     let e = row_there i s.args.work.now mid ys zs s.requires.shaped.1 s.requires.shaped.2 long size rest P in
     let f = rw (part_row s.args.work.now i) at c.may_cut.ensures in record {
-      fact = mended (f.1 c.if-not-may_cut.false) (row_kept i s.args.work.now mid ys zs s.requires.shaped.1 s.requires.shaped.2 long size rest P);
-      fact_2 = (λ N A h M _. rw w (t.ensures.0 N A (rw e h) (rw e M)), rw (w, ← e) t.ensures.1);
+      row_kept_if_cut = mended (f.1 c.if-not-may_cut.false) (row_kept i s.args.work.now mid ys zs s.requires.shaped.1 s.requires.shaped.2 long size rest P);
+      row_mended = (λ N A h M _. rw w (t.ensures.0 N A (rw e h) (rw e M)), rw (w, ← e) t.ensures.1);
     }

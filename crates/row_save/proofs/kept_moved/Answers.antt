@@ -6,9 +6,9 @@ use Rattle.row_save.proofs.kept_moved.Goals as goal
 
 pub returns-then-is_kept : goal.returns-then-is_kept
 returns-then-is_kept c = record {
-  unmoved_at = λ q b. c.row_moved.ensures.0 q;
-  row_value = λ q. (eqb-true _ 1 (sym c.is_kept.ensures ∙ c.if-is_kept.true), c.row_moved.ensures.1 q);
+  unmoved_if_false = λ q b. c.row_moved.ensures.0 q;
+  kept_and_moved_if_true = λ q. (eqb-true _ 1 (sym c.is_kept.ensures ∙ c.if-is_kept.true), c.row_moved.ensures.1 q);
 }
 
 pub returns : goal.returns
-returns c = record { unmoved_at = λ q b. absurd (eqb-false _ 1 (sym c.is_kept.ensures ∙ c.if-is_kept.false) b); row_value = λ q. absurd (false≢true q) }
+returns c = record { unmoved_if_false = λ q b. absurd (eqb-false _ 1 (sym c.is_kept.ensures ∙ c.if-is_kept.false) b); kept_and_moved_if_true = λ q. absurd (false≢true q) }

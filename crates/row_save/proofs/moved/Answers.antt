@@ -12,10 +12,10 @@ pub kept_moved-requires : goal.kept_moved-requires
 kept_moved-requires c = let s = c in (s.requires.0, omega arith, s.requires.2, s.requires.3, s.requires.4)
 
 pub returns-then-kept_moved : goal.returns-then-kept_moved
-returns-then-kept_moved c = (λ q. absurd (true≢false q), λ q. let m = c.kept_moved.ensures.row_value c.if-kept_moved.true in (c.loop-i.i, omega arith, m.0, m.1))
+returns-then-kept_moved c = (λ q. absurd (true≢false q), λ q. let m = c.kept_moved.ensures.kept_and_moved_if_true c.if-kept_moved.true in (c.loop-i.i, omega arith, m.0, m.1))
 
 pub loop-i-preserved : goal.loop-i-preserved
-loop-i-preserved c = (omega arith, below_more _ _ c.loop-i.invariant.1 (c.kept_moved.ensures.unmoved_at c.if-kept_moved.false))
+loop-i-preserved c = (omega arith, below_more _ _ c.loop-i.invariant.1 (c.kept_moved.ensures.unmoved_if_false c.if-kept_moved.false))
 
 pub returns : goal.returns
 returns c =

@@ -14,7 +14,7 @@ pub loop-i-preserved : goal.loop-i-preserved
 loop-i-preserved c =
     let l = c.loop-i in
     let t = c.put_row_back in
-    (omega arith, t.auto.work ∙ l.invariant.1, back_more _ (omega arith) l.invariant.2 (t.ensures.row_put, t.ensures.work_unchanged))
+    (omega arith, t.auto.work ∙ l.invariant.1, back_more _ (omega arith) l.invariant.2 (t.ensures.back_if_kept, t.ensures.unchanged_if_not_kept))
 
 pub returns : goal.returns
 returns c =

@@ -13,9 +13,9 @@ pub returns-then-is_kept : goal.returns-then-is_kept
 returns-then-is_kept c =
     let a = c.args in
     let o : bit_of a.kept a.row ≡ 1 = eqb-true _ 1 (sym c.is_kept.ensures ∙ c.if-is_kept.true) in
-    record { row_put = λ b. c.copy_row.ensures; work_unchanged = λ b. absurd (omega (arith, o, b)) }
+    record { back_if_kept = λ b. c.copy_row.ensures; unchanged_if_not_kept = λ b. absurd (omega (arith, o, b)) }
 
 pub returns-else-is_kept : goal.returns-else-is_kept
 returns-else-is_kept c =
     let o = eqb-false _ 1 (sym c.is_kept.ensures ∙ c.if-is_kept.false) in
-    record { row_put = λ b. absurd (o b); work_unchanged = λ b. refl }
+    record { back_if_kept = λ b. absurd (o b); unchanged_if_not_kept = λ b. refl }

@@ -20,13 +20,13 @@ loop-left-smaller c =
     let l = c.loop-left in
     let u = c.nearest-node in
     let t = c.spread_node-left in
-    turn_less u.result l.left t.result u.ensures.node u.ensures.member t.ensures.tries
+    turn_less u.result l.left t.result u.ensures.node u.ensures.member t.ensures.active_or_total_falls
 
 pub loop-left-preserved : goal.loop-left-preserved
 loop-left-preserved c =
     let l = c.loop-left in
     let t = c.spread_node-left in
-    (t.auto.row ∙ l.invariant.0, λ N a p P g. t.ensures.fact.0 N a p P (l.invariant.1 N a p P g), λ S. t.ensures.still (l.invariant.2 S), λ s v a. t.ensures.fact.1 s v a ∙ l.invariant.3 s v a)
+    (t.auto.row ∙ l.invariant.0, λ N a p P g. t.ensures.good_stays_good.0 N a p P (l.invariant.1 N a p P g), λ S. t.ensures.still_kept (l.invariant.2 S), λ s v a. t.ensures.good_stays_good.1 s v a ∙ l.invariant.3 s v a)
 
 pub returns : goal.returns
-returns c = let l = c.loop-left in record { fact = (l.invariant.1, l.invariant.3); fact_2 = λ S. still_done c.loop-left-test.false (l.invariant.2 S) }
+returns c = let l = c.loop-left in record { good_stays_good = (l.invariant.1, l.invariant.3); all_settled = λ S. still_done c.loop-left-test.false (l.invariant.2 S) }

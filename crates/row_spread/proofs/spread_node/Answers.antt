@@ -69,7 +69,7 @@ returns c =
     let l = c.loop-link in
     let z : l.link ≡ 0 = omega arith in
     record {
-      fact = (l.invariant.2, l.invariant.6);
-      still = λ S. waits_done z (l.invariant.4 S);
-      tries = taken s.args.active s.args.node s.requires.3 s.requires.4 l.invariant.5;
+      good_stays_good = (l.invariant.2, l.invariant.6);
+      still_kept = λ S. waits_done z (l.invariant.4 S);
+      active_or_total_falls = taken s.args.active s.args.node s.requires.3 s.requires.4 l.invariant.5;
     }

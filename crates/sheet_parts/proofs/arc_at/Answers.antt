@@ -17,25 +17,25 @@ read-ends n bs = refl
 
 pub returns-then-head-tail : goal.returns-then-head-tail
 returns-then-head-tail c =
-    second_same 9 10 _ 65535 arc _ (ap (judged_of _) (sym c.in-Got.is) ∙ c.judged_at.ensures.result_value)
-    (ap (judged_of _) (sym c.in-Got-judged_at.is) ∙ c.judged_at-in-Got.ensures.result_value) c.if-head-tail.true ∙ read-ends _ _
+    second_same 9 10 _ 65535 arc _ (ap (judged_of _) (sym c.in-Got.is) ∙ c.judged_at.ensures.number_judged)
+    (ap (judged_of _) (sym c.in-Got-judged_at.is) ∙ c.judged_at-in-Got.ensures.number_judged) c.if-head-tail.true ∙ read-ends _ _
 
 pub returns-in-Refused : goal.returns-in-Refused
-returns-in-Refused c = first_not 9 10 _ 65535 arc _ (ap (judged_of _) (sym c.in-Refused.is) ∙ c.judged_at.ensures.result_value) ∙ read-ends _ _
+returns-in-Refused c = first_not 9 10 _ 65535 arc _ (ap (judged_of _) (sym c.in-Refused.is) ∙ c.judged_at.ensures.number_judged) ∙ read-ends _ _
 
 pub returns-in-Refused-judged_at : goal.returns-in-Refused-judged_at
 returns-in-Refused-judged_at c =
-    second_not 9 10 _ 65535 arc _ (ap (judged_of _) (sym c.in-Got.is) ∙ c.judged_at.ensures.result_value)
-    (ap (judged_of _) (sym c.in-Refused-judged_at.is) ∙ c.judged_at-in-Got.ensures.result_value) ∙ read-ends _ _
+    second_not 9 10 _ 65535 arc _ (ap (judged_of _) (sym c.in-Got.is) ∙ c.judged_at.ensures.number_judged)
+    (ap (judged_of _) (sym c.in-Refused-judged_at.is) ∙ c.judged_at-in-Got.ensures.number_judged) ∙ read-ends _ _
 
 pub returns-in-Refused-judged_at-2 : goal.returns-in-Refused-judged_at-2
 returns-in-Refused-judged_at-2 c =
-    third_not 9 10 _ 65535 arc _ (ap (judged_of _) (sym c.in-Got.is) ∙ c.judged_at.ensures.result_value)
-    (ap (judged_of _) (sym c.in-Got-judged_at.is) ∙ c.judged_at-in-Got.ensures.result_value) c.if-head-tail.false
-    (ap (judged_of _) (sym c.in-Refused-judged_at-2.is) ∙ c.judged_at-in-Got-judged_at.ensures.result_value) ∙ read-ends _ _
+    third_not 9 10 _ 65535 arc _ (ap (judged_of _) (sym c.in-Got.is) ∙ c.judged_at.ensures.number_judged)
+    (ap (judged_of _) (sym c.in-Got-judged_at.is) ∙ c.judged_at-in-Got.ensures.number_judged) c.if-head-tail.false
+    (ap (judged_of _) (sym c.in-Refused-judged_at-2.is) ∙ c.judged_at-in-Got-judged_at.ensures.number_judged) ∙ read-ends _ _
 
 pub returns-in-Got-judged_at-2 : goal.returns-in-Got-judged_at-2
 returns-in-Got-judged_at-2 c =
-    third_read 9 10 _ 65535 arc _ (ap (judged_of _) (sym c.in-Got.is) ∙ c.judged_at.ensures.result_value)
-    (ap (judged_of _) (sym c.in-Got-judged_at.is) ∙ c.judged_at-in-Got.ensures.result_value) c.if-head-tail.false
-    (ap (judged_of _) (sym c.in-Got-judged_at-2.is) ∙ c.judged_at-in-Got-judged_at.ensures.result_value) ∙ read-ends _ _
+    third_read 9 10 _ 65535 arc _ (ap (judged_of _) (sym c.in-Got.is) ∙ c.judged_at.ensures.number_judged)
+    (ap (judged_of _) (sym c.in-Got-judged_at.is) ∙ c.judged_at-in-Got.ensures.number_judged) c.if-head-tail.false
+    (ap (judged_of _) (sym c.in-Got-judged_at-2.is) ∙ c.judged_at-in-Got-judged_at.ensures.number_judged) ∙ read-ends _ _

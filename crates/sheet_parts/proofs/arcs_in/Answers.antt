@@ -11,7 +11,7 @@ pub loop-j-init : goal.loop-j-init
 loop-j-init c = start _ _ _ _ _ flat_none
 
 pub returns-in-Refused : goal.returns-in-Refused
-returns-in-Refused c = let both = stops c.loop-j.invariant c.loop-j-test.true (ap (arc_of _) (sym c.in-Refused.is) ∙ c.arc_at.ensures) in record { section_is = both.0; arcs_after = both.1 }
+returns-in-Refused c = let both = stops c.loop-j.invariant c.loop-j-test.true (ap (arc_of _) (sym c.in-Refused.is) ∙ c.arc_at.ensures) in record { section_told = both.0; arcs_in_front = both.1 }
 
 pub bounds-arcs-j : goal.bounds-arcs-j
 bounds-arcs-j c = omega (arith, arcs_kept c.loop-j.invariant (omega arith))
@@ -28,4 +28,4 @@ loop-j-preserved c =
     (arc_stored c.loop-j.invariant (omega arith) _ _ _ c.loop-j-test.true)
 
 pub returns : goal.returns
-returns c = let both = done c.loop-j.invariant c.loop-j-test.false in record { section_is = both.0; arcs_after = both.1 }
+returns c = let both = done c.loop-j.invariant c.loop-j-test.false in record { section_told = both.0; arcs_in_front = both.1 }

@@ -17,30 +17,30 @@ unfolding header_source header_target header_limit
 read-ends n m bs = refl
 
 pub returns-in-Refused : goal.returns-in-Refused
-returns-in-Refused c = record { result_value = first_not 7 8 _ 1000000 (header _ _) _ (ap (judged_of _) (sym c.in-Refused.is) ∙ c.judged_at.ensures.result_value) ∙ read-ends _ _ _; header_fits = tt }
+returns-in-Refused c = record { source_to_limit_read = first_not 7 8 _ 1000000 (header _ _) _ (ap (judged_of _) (sym c.in-Refused.is) ∙ c.judged_at.ensures.number_judged) ∙ read-ends _ _ _; header_fits = tt }
 
 pub returns-in-Refused-judged_at : goal.returns-in-Refused-judged_at
 returns-in-Refused-judged_at c = record {
-  result_value = second_not 7 8 _ 1000000 (header _ _) _ (ap (judged_of _) (sym c.in-Got.is) ∙ c.judged_at.ensures.result_value)
-      (ap (judged_of _) (sym c.in-Refused-judged_at.is) ∙ c.judged_at-2.ensures.result_value)
+  source_to_limit_read = second_not 7 8 _ 1000000 (header _ _) _ (ap (judged_of _) (sym c.in-Got.is) ∙ c.judged_at.ensures.number_judged)
+      (ap (judged_of _) (sym c.in-Refused-judged_at.is) ∙ c.judged_at-2.ensures.number_judged)
       ∙ read-ends _ _ _;
   header_fits = tt;
 }
 
 pub returns-then-target-source : goal.returns-then-target-source
 returns-then-target-source c = record {
-  result_value = second_same 7 8 _ 1000000 (header _ _) _ (ap (judged_of _) (sym c.in-Got.is) ∙ c.judged_at.ensures.result_value)
-      (ap (judged_of _) (sym c.in-Got-judged_at.is) ∙ c.judged_at-2.ensures.result_value) c.if-target-source.true
+  source_to_limit_read = second_same 7 8 _ 1000000 (header _ _) _ (ap (judged_of _) (sym c.in-Got.is) ∙ c.judged_at.ensures.number_judged)
+      (ap (judged_of _) (sym c.in-Got-judged_at.is) ∙ c.judged_at-2.ensures.number_judged) c.if-target-source.true
       ∙ read-ends _ _ _;
   header_fits = tt;
 }
 
 pub returns-in-Got-judged_at-2 : goal.returns-in-Got-judged_at-2
 returns-in-Got-judged_at-2 c =
-    let a = (ap (judged_of _) (sym c.in-Got.is) ∙ c.judged_at.ensures.result_value) in
-    let b = (ap (judged_of _) (sym c.in-Got-judged_at.is) ∙ c.judged_at-2.ensures.result_value) in
-    let k = (ap (judged_of _) (sym c.in-Got-judged_at-2.is) ∙ c.judged_at-3.ensures.result_value) in record {
-      result_value = third_read 7 8 _ 1000000 (header _ _) _ a b c.if-target-source.false k ∙ read-ends _ _ _;
+    let a = (ap (judged_of _) (sym c.in-Got.is) ∙ c.judged_at.ensures.number_judged) in
+    let b = (ap (judged_of _) (sym c.in-Got-judged_at.is) ∙ c.judged_at-2.ensures.number_judged) in
+    let k = (ap (judged_of _) (sym c.in-Got-judged_at-2.is) ∙ c.judged_at-3.ensures.number_judged) in record {
+      source_to_limit_read = third_read 7 8 _ 1000000 (header _ _) _ a b c.if-target-source.false k ∙ read-ends _ _ _;
       header_fits = record {
         some = c.requires.0;
         few = c.requires.1;
@@ -48,15 +48,15 @@ returns-in-Got-judged_at-2 c =
         source = number_below _ _ _ a;
         target = number_below _ _ _ b;
         limit = omega (arith, number_below _ _ _ k);
-        inside = omega (arith, ap next_of c.in-Got-judged_at-2.is, c.judged_at-3.ensures.result_in_bounds);
+        inside = omega (arith, ap next_of c.in-Got-judged_at-2.is, c.judged_at-3.ensures.next_inside);
       };
     }
 
 pub returns-in-Refused-judged_at-2 : goal.returns-in-Refused-judged_at-2
 returns-in-Refused-judged_at-2 c = record {
-  result_value = third_not 7 8 _ 1000000 (header _ _) _ (ap (judged_of _) (sym c.in-Got.is) ∙ c.judged_at.ensures.result_value)
-      (ap (judged_of _) (sym c.in-Got-judged_at.is) ∙ c.judged_at-2.ensures.result_value) c.if-target-source.false
-      (ap (judged_of _) (sym c.in-Refused-judged_at-2.is) ∙ c.judged_at-3.ensures.result_value)
+  source_to_limit_read = third_not 7 8 _ 1000000 (header _ _) _ (ap (judged_of _) (sym c.in-Got.is) ∙ c.judged_at.ensures.number_judged)
+      (ap (judged_of _) (sym c.in-Got-judged_at.is) ∙ c.judged_at-2.ensures.number_judged) c.if-target-source.false
+      (ap (judged_of _) (sym c.in-Refused-judged_at-2.is) ∙ c.judged_at-3.ensures.number_judged)
       ∙ read-ends _ _ _;
   header_fits = tt;
 }

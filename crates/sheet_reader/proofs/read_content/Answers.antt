@@ -14,8 +14,8 @@ pub returns-in-Got : goal.returns-in-Got
 returns-in-Got c =
     let e = part_all c.args.content.now c.in-Got.at in
     let w = c.read_behind.ensures in
-    let both = header_read _ _ _ _ _ (ap (header_in _) (sym c.in-Got.is) ∙ c.header_of.ensures.result_value) (rw e at w.value) (rw e at w.arcs_after) (rw e at w.marks_after) (rw e at w.services_after) in
-    record { value = both.0; arcs_after = both.1.0; marks_after = both.1.1.0; services_after = both.1.1.1 }
+    let both = header_read _ _ _ _ _ (ap (header_in _) (sym c.in-Got.is) ∙ c.header_of.ensures.header_read) (rw e at w.rest_told) (rw e at w.arcs_in_front) (rw e at w.marks_in_front) (rw e at w.services_in_front) in
+    record { content_told = both.0; arcs_in_front = both.1.0; marks_in_front = both.1.1.0; services_in_front = both.1.1.1 }
 
 pub returns-in-Refused : goal.returns-in-Refused
-returns-in-Refused c = let both = header_refused _ _ _ _ _ (ap (header_in _) (sym c.in-Refused.is) ∙ c.header_of.ensures.result_value) in record { value = both.0; arcs_after = both.1.0; marks_after = both.1.1.0; services_after = both.1.1.1 }
+returns-in-Refused c = let both = header_refused _ _ _ _ _ (ap (header_in _) (sym c.in-Refused.is) ∙ c.header_of.ensures.header_read) in record { content_told = both.0; arcs_in_front = both.1.0; marks_in_front = both.1.1.0; services_in_front = both.1.1.1 }

@@ -8,11 +8,11 @@ use Rattle.sheet_reader.proofs.read_lists.Goals as goal
 pub returns-in-Got : goal.returns-in-Got
 unfolding arcs_behind
 returns-in-Got c =
-    let q = (ap (section_of _ _) (sym c.in-Got.is) ∙ c.arcs_in.ensures.section_is) in
-    record { result_value = lists_read c.args.header _ q c.args.section.now c.marks_in.result c.marks_in.ensures.section_is; arcs_after = c.arcs_in.ensures.arcs_after; marks_after = rw (marks_left c.args.header _ q) c.marks_in.ensures.marks_after }
+    let q = (ap (section_of _ _) (sym c.in-Got.is) ∙ c.arcs_in.ensures.section_told) in
+    record { lists_told = lists_read c.args.header _ q c.args.section.now c.marks_in.result c.marks_in.ensures.section_told; arcs_in_front = c.arcs_in.ensures.arcs_in_front; marks_in_front = rw (marks_left c.args.header _ q) c.marks_in.ensures.marks_in_front }
 
 pub returns-in-Refused : goal.returns-in-Refused
 unfolding arcs_behind
 returns-in-Refused c =
-    let w = arcs_refused c.args.header _ (ap (section_of _ _) (sym c.in-Refused.is) ∙ c.arcs_in.ensures.section_is) in
-    record { result_value = w.0; arcs_after = c.arcs_in.ensures.arcs_after; marks_after = rw w.1 }
+    let w = arcs_refused c.args.header _ (ap (section_of _ _) (sym c.in-Refused.is) ∙ c.arcs_in.ensures.section_told) in
+    record { lists_told = w.0; arcs_in_front = c.arcs_in.ensures.arcs_in_front; marks_in_front = rw w.1 }

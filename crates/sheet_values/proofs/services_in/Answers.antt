@@ -9,7 +9,7 @@ pub loop-j-init : goal.loop-j-init
 loop-j-init c = start _ _ _ _ _ refl
 
 pub returns-in-Refused : goal.returns-in-Refused
-returns-in-Refused c = let both = stops c.loop-j.invariant c.loop-j-test.true (c.in-Refused.ensures.result_value ∙ sym (service_number _)) in record { section_is = both.0; services_after = both.1 }
+returns-in-Refused c = let both = stops c.loop-j.invariant c.loop-j-test.true (c.in-Refused.ensures.number_judged ∙ sym (service_number _)) in record { section_told = both.0; services_in_front = both.1 }
 
 pub bounds-services-j : goal.bounds-services-j
 bounds-services-j c = omega (arith, plain_kept c.loop-j.invariant (omega arith))
@@ -17,8 +17,8 @@ bounds-services-j c = omega (arith, plain_kept c.loop-j.invariant (omega arith))
 pub loop-j-preserved : goal.loop-j-preserved
 loop-j-preserved c =
     more c.loop-j.invariant c.loop-j-test.true
-    (c.in-Got.ensures.result_value ∙ sym (service_number _))
+    (c.in-Got.ensures.number_judged ∙ sym (service_number _))
     (plain_stored c.loop-j.invariant (omega arith) _ c.loop-j-test.true)
 
 pub returns : goal.returns
-returns c = let both = done c.loop-j.invariant c.loop-j-test.false in record { section_is = both.0; services_after = both.1 }
+returns c = let both = done c.loop-j.invariant c.loop-j-test.false in record { section_told = both.0; services_in_front = both.1 }

@@ -7,9 +7,9 @@ use Rattle.sheet_view.proofs.past_numbers.Goals as goal
 
 pub returns-in-Got : goal.returns-in-Got
 returns-in-Got c = (
-  past_read _ _ (ap (section_of _ _) (sym c.in-Got.is) ∙ c.skip_numbers.ensures.section_is),
-  omega (arith, ap section_end c.in-Got.is, c.skip_numbers.ensures.result_in_bounds c.requires),
+  past_read _ _ (ap (section_of _ _) (sym c.in-Got.is) ∙ c.skip_numbers.ensures.section_told),
+  omega (arith, ap section_end c.in-Got.is, c.skip_numbers.ensures.ends_inside c.requires),
 )
 
 pub returns-in-Refused : goal.returns-in-Refused
-returns-in-Refused c = (past_refused _ _ c.args.sheet.now (ap (section_of _ _) (sym c.in-Refused.is) ∙ c.skip_numbers.ensures.section_is), omega arith)
+returns-in-Refused c = (past_refused _ _ c.args.sheet.now (ap (section_of _ _) (sym c.in-Refused.is) ∙ c.skip_numbers.ensures.section_told), omega arith)

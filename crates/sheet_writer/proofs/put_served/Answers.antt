@@ -18,7 +18,7 @@ abbrev content : goal.Start → List ℕ
 content s = sheet_numbers (sheet_of s.args.header s.args.arcs.now s.args.marks.now)
 
 services-room : (s : goal.Start) → Room ((1 ∷ []) ++ write_numbers (content s)) (write_numbers s.args.services.now) s.args.sheet.now
-services-room s = record { fits = rw (served_bytes (content s) s.args.services.now) at s.requires.services_in_bounds }
+services-room s = record { fits = rw (served_bytes (content s) s.args.services.now) at s.requires.numbers_fit }
 
 content-room : (s : goal.Start) → Room (1 ∷ []) (write_numbers (content s)) s.args.sheet.now
 content-room s = room_before (services-room s)
@@ -42,7 +42,7 @@ slice_bounds-put_content-start c =
     put_within (content-room s) (lead-put s)
 
 pub put_content-end-requires : goal.put_content-end-requires
-put_content-end-requires c = let s = (goal.at.put_content-end-requires c).Start in record { by_index = (_, s.requires.services_value); marks_in_bounds = put_room (content-room s) (lead-put s) }
+put_content-end-requires c = let s = (goal.at.put_content-end-requires c).Start in record { faultless_by_some_services = (_, s.requires.draft_faultless); content_fits = put_room (content-room s) (lead-put s) }
 
 pub overflow_add-end : goal.overflow_add-end
 overflow_add-end c =
@@ -62,7 +62,7 @@ slice_bounds-put_numbers-start c =
 pub put_numbers-requires : goal.put_numbers-requires
 put_numbers-requires c =
     let s = (goal.at.put_numbers-requires c).Start in
-    (small_services _ s.requires.services_value, put_room (services-room s) (put_on_lem (content-room s) (lead-put s) c.put_content-end.ensures))
+    (small_services _ s.requires.draft_faultless, put_room (services-room s) (put_on_lem (content-room s) (lead-put s) c.put_content-end.ensures))
 
 pub overflow_add-result : goal.overflow_add-result
 overflow_add-result c =

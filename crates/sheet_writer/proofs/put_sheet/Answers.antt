@@ -8,7 +8,7 @@ pub put_content-requires : goal.put_content-requires
 put_content-requires c =
     let d : Draft = draft_of c.args.header c.args.arcs.now c.args.marks.now c.args.services.now in
     let plain = plain_form d (sym c.no_service.ensures ∙ c.if-no_service.true) in
-    record { by_index = (_, c.requires.services_value); marks_in_bounds = rw plain at c.requires.services_in_bounds }
+    record { faultless_by_some_services = (_, c.requires.draft_faultless); content_fits = rw plain at c.requires.page_fits }
 
 pub returns-then-no_service : goal.returns-then-no_service
 returns-then-no_service c =
@@ -19,7 +19,7 @@ pub put_served-requires : goal.put_served-requires
 put_served-requires c =
     let d : Draft = draft_of c.args.header c.args.arcs.now c.args.marks.now c.args.services.now in
     let served = served_form d (sym c.no_service.ensures ∙ c.if-no_service.false) in
-    record { services_value = c.requires.services_value; services_in_bounds = rw served at c.requires.services_in_bounds }
+    record { draft_faultless = c.requires.draft_faultless; numbers_fit = rw served at c.requires.page_fits }
 
 pub returns : goal.returns
 returns c =

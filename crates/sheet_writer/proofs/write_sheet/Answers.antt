@@ -15,7 +15,7 @@ returns-then-not-has_room c = short_written _ (sym c.draft_fault-fault.ensures â
 pub put_sheet-requires : goal.put_sheet-requires
 put_sheet-requires c =
     let z = sym c.draft_fault-fault.ensures âˆ™ c.if-fault-ne0.false in
-    record { services_value = z; services_in_bounds = room _ z c.args.sheet.now c.sheet_size.ensures c.has_room.ensures c.if-not-has_room.false }
+    record { draft_faultless = z; page_fits = room _ z c.args.sheet.now c.sheet_size.ensures c.has_room.ensures c.if-not-has_room.false }
 
 pub returns : goal.returns
 returns c =

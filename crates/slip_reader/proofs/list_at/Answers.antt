@@ -6,18 +6,18 @@ use Rattle.slip_reader.proofs.list_at.Goals as goal
 
 pub returns-in-Got-skip_numbers : goal.returns-in-Got-skip_numbers
 returns-in-Got-skip_numbers c =
-    let e = c.in-Got-skip_numbers.ensures.section_is in
-    record { result_value = count_read _ c.in-Got.ensures.0 e; list_count = (several_read read_number _ _ _ _ e).0 }
+    let e = c.in-Got-skip_numbers.ensures.section_told in
+    record { list_told = count_read _ c.in-Got.ensures.0 e; count_is_said = (several_read read_number _ _ _ _ e).0 }
 
 pub returns-in-Refused : goal.returns-in-Refused
 returns-in-Refused c = record {
-  result_value = count_read _ c.in-Got.ensures.0
-      c.in-Refused.ensures.section_is;
-  list_count = tt;
+  list_told = count_read _ c.in-Got.ensures.0
+      c.in-Refused.ensures.section_told;
+  count_is_said = tt;
 }
 
 pub returns-in-Ends : goal.returns-in-Ends
-returns-in-Ends c = record { result_value = count_not _ c.in-Ends.ensures.0; list_count = tt }
+returns-in-Ends c = record { list_told = count_not _ c.in-Ends.ensures.0; count_is_said = tt }
 
 pub returns-in-Overlong : goal.returns-in-Overlong
-returns-in-Overlong c = record { result_value = count_not _ c.in-Overlong.ensures.0; list_count = tt }
+returns-in-Overlong c = record { list_told = count_not _ c.in-Overlong.ensures.0; count_is_said = tt }

@@ -4,24 +4,24 @@ use Rattle.slip_reader.proofs.read_lists.Goals as goal
 
 pub returns-then-end-slip : goal.returns-then-end-slip
 returns-then-end-slip c = record {
-  result_value = bytes_left _ _ c.in-Got.ensures.result_value _ _
-      c.in-Got-list_at.ensures.result_value c.if-end-slip.true;
+  lists_told = bytes_left _ _ c.in-Got.ensures.list_told _ _
+      c.in-Got-list_at.ensures.list_told c.if-end-slip.true;
   slip_counts = tt;
 }
 
 pub returns-else-end-slip : goal.returns-else-end-slip
 returns-else-end-slip c = record {
-  result_value = lists_read _ _ c.in-Got.ensures.result_value _ _
-      c.in-Got-list_at.ensures.result_value c.if-end-slip.false;
-  slip_counts = (c.in-Got.ensures.list_count, c.in-Got-list_at.ensures.list_count);
+  lists_told = lists_read _ _ c.in-Got.ensures.list_told _ _
+      c.in-Got-list_at.ensures.list_told c.if-end-slip.false;
+  slip_counts = (c.in-Got.ensures.count_is_said, c.in-Got-list_at.ensures.count_is_said);
 }
 
 pub returns-in-Refused-list_at : goal.returns-in-Refused-list_at
 returns-in-Refused-list_at c = record {
-  result_value = reasons_not _ _ c.in-Got.ensures.result_value
-      c.in-Refused-list_at.ensures.result_value;
+  lists_told = reasons_not _ _ c.in-Got.ensures.list_told
+      c.in-Refused-list_at.ensures.list_told;
   slip_counts = tt;
 }
 
 pub returns-in-Refused : goal.returns-in-Refused
-returns-in-Refused c = record { result_value = goals_not _ _ c.in-Refused.ensures.result_value; slip_counts = tt }
+returns-in-Refused c = record { lists_told = goals_not _ _ c.in-Refused.ensures.list_told; slip_counts = tt }

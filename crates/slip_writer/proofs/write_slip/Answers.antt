@@ -10,19 +10,19 @@ use Rattle.slip_writer.proofs.write_slip.Goals.{Start}
 
 reasons-room :
     (s : goal.Start) → Room (write_number s.args.first ++ list_bytes s.args.goals.now) (list_bytes s.args.reasons.now) s.args.slip.now
-reasons-room s = record { fits = rw (slip_parts s.args.first s.args.goals.now s.args.reasons.now) at s.requires.reasons_in_bounds }
+reasons-room s = record { fits = rw (slip_parts s.args.first s.args.goals.now s.args.reasons.now) at s.requires.slip_fits }
 
 goals-room : (s : goal.Start) → Room (write_number s.args.first) (list_bytes s.args.goals.now) s.args.slip.now
 goals-room s = room_before (reasons-room s)
 
 pub put_number-at-requires : goal.put_number-at-requires
-put_number-at-requires c = ((small_parts _ _ _ c.requires.reasons_value).0, first_fits (goals-room (goal.at.put_number-at-requires c).Start))
+put_number-at-requires c = ((small_parts _ _ _ c.requires.numbers_small).0, first_fits (goals-room (goal.at.put_number-at-requires c).Start))
 
 pub slice_bounds-put_goals-count : goal.slice_bounds-put_goals-count
 slice_bounds-put_goals-count c = put_within (goals-room (goal.at.slice_bounds-put_goals-count c).Start) c.put_number-at.ensures
 
 pub put_goals-requires : goal.put_goals-requires
-put_goals-requires c = ((small_parts _ _ _ c.requires.reasons_value).1, put_room (goals-room (goal.at.put_goals-requires c).Start) c.put_number-at.ensures)
+put_goals-requires c = ((small_parts _ _ _ c.requires.numbers_small).1, put_room (goals-room (goal.at.put_goals-requires c).Start) c.put_number-at.ensures)
 
 pub overflow_add-end : goal.overflow_add-end
 overflow_add-end c = omega (arith, put_end (goals-room (goal.at.overflow_add-end c).Start) c.put_number-at.ensures c.put_goals.ensures)
@@ -31,7 +31,7 @@ pub slice_bounds-put_reasons-count : goal.slice_bounds-put_reasons-count
 slice_bounds-put_reasons-count c = put_within (reasons-room (goal.at.slice_bounds-put_reasons-count c).Start) (put_on_lem (goals-room (goal.at.slice_bounds-put_reasons-count c).Start) c.put_number-at.ensures c.put_goals.ensures)
 
 pub put_reasons-requires : goal.put_reasons-requires
-put_reasons-requires c = ((small_parts _ _ _ c.requires.reasons_value).2, put_room (reasons-room (goal.at.put_reasons-requires c).Start) (put_on_lem (goals-room (goal.at.put_reasons-requires c).Start) c.put_number-at.ensures c.put_goals.ensures))
+put_reasons-requires c = ((small_parts _ _ _ c.requires.numbers_small).2, put_room (reasons-room (goal.at.put_reasons-requires c).Start) (put_on_lem (goals-room (goal.at.put_reasons-requires c).Start) c.put_number-at.ensures c.put_goals.ensures))
 
 pub overflow_add-result : goal.overflow_add-result
 overflow_add-result c = omega (arith, put_end (reasons-room (goal.at.overflow_add-result c).Start) (put_on_lem (goals-room (goal.at.overflow_add-result c).Start) c.put_number-at.ensures c.put_goals.ensures) c.put_reasons.ensures)

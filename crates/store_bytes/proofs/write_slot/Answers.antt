@@ -17,7 +17,7 @@ slice_bounds-write_slip-end c = goals_counted c.lists_of-all.ensures
 pub write_slip-requires : goal.write_slip-requires
 write_slip-requires c =
     let l : length c.args.slot.items ≡ 24 = search rules in
-    let e = sym (slot_slip c.lists_of-all.ensures c.first_of-first.ensures) in record { reasons_value = subst (λ (t : Slip). small (slip_numbers t) ≡ true) e (short_small (slot_short c.args.slot l c.requires.0)); reasons_in_bounds = subst (λ (t : Slip). length (slip_bytes t) ≤ length c.args.slip.now) e (omega (arith, (short_size (slot_short c.args.slot l c.requires.0)).1, c.requires.1)) }
+    let e = sym (slot_slip c.lists_of-all.ensures c.first_of-first.ensures) in record { numbers_small = subst (λ (t : Slip). small (slip_numbers t) ≡ true) e (short_small (slot_short c.args.slot l c.requires.0)); slip_fits = subst (λ (t : Slip). length (slip_bytes t) ≤ length c.args.slip.now) e (omega (arith, (short_size (slot_short c.args.slot l c.requires.0)).1, c.requires.1)) }
 
 pub returns : goal.returns
 returns c =

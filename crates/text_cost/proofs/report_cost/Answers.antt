@@ -16,14 +16,14 @@ put_refused-requires-in-Overlong c = (omega arith, refused_fits _ c.args.out.now
 pub returns-in-Got : goal.returns-in-Got
 returns-in-Got c =
     let whole = printed c.args.out.now _ _ (read_text c.args.input.now _ _ c.in-Got.ensures.1 c.in-Got.ensures.0) c.put_answer.ensures in
-    record { put = whole.0; upper_bound = whole.1 }
+    record { text_in_front = whole.0; length_inside = whole.1 }
 
 pub returns-in-Ends : goal.returns-in-Ends
 returns-in-Ends c =
     let whole = printed c.args.out.now _ _ (unread_text c.args.input.now 3 c.in-Ends.ensures.0) c.put_refused.ensures in
-    record { put = whole.0; upper_bound = whole.1 }
+    record { text_in_front = whole.0; length_inside = whole.1 }
 
 pub returns-in-Overlong : goal.returns-in-Overlong
 returns-in-Overlong c =
     let whole = printed c.args.out.now _ _ (unread_text c.args.input.now 4 c.in-Overlong.ensures.0) c.put_refused-in-Overlong.ensures in
-    record { put = whole.0; upper_bound = whole.1 }
+    record { text_in_front = whole.0; length_inside = whole.1 }

@@ -16,28 +16,28 @@ listed p = listed_front _ _ _ _ p.newly_forbidden-count.ensures
 
 pub returns-in-Refused : goal.returns-in-Refused
 returns-in-Refused c =
-    absurd (never_refused c.args.sheet.now c.args.slip.now _ c.requires.0 (c.read.ensures.read_as.refused _ c.in-Refused.is))
+    absurd (never_refused c.args.sheet.now c.args.slip.now _ c.requires.0 (c.read.ensures.loaded_or_refused.refused _ c.in-Refused.is))
 
 pub overflow_add-items : goal.overflow_add-items
-overflow_add-items c = let W = (c.read.ensures.read_as.took _ c.in-Got.is).whole in omega (arith, W.few, W.proper.few)
+overflow_add-items c = let W = (c.read.ensures.loaded_or_refused.took _ c.in-Got.is).whole in omega (arith, W.few, W.proper.few)
 
 pub slice_bounds-marks-end : goal.slice_bounds-marks-end
-slice_bounds-marks-end c = let W = (c.read.ensures.read_as.took _ c.in-Got.is).whole in omega (arith, W.few, W.proper.few, c.read.auto.marks)
+slice_bounds-marks-end c = let W = (c.read.ensures.loaded_or_refused.took _ c.in-Got.is).whole in omega (arith, W.few, W.proper.few, c.read.auto.marks)
 
 pub slice_bounds-newly_forbidden-end : goal.slice_bounds-newly_forbidden-end
-slice_bounds-newly_forbidden-end c = sym (c.read.ensures.read_as.took _ c.in-Got.is).whole.sized.1
+slice_bounds-newly_forbidden-end c = sym (c.read.ensures.loaded_or_refused.took _ c.in-Got.is).whole.sized.1
 
 pub newly_forbidden-count-requires : goal.newly_forbidden-count-requires
-newly_forbidden-count-requires c = let T = (stands_is c.args.sheet.now c.args.slip.now _ _ c.requires.0 c.requires.1 (c.read.ensures.read_as.took _ c.in-Got.is).makes refl) in (T.longer, T.few)
+newly_forbidden-count-requires c = let T = (stands_is c.args.sheet.now c.args.slip.now _ _ c.requires.0 c.requires.1 (c.read.ensures.loaded_or_refused.took _ c.in-Got.is).makes refl) in (T.longer, T.few)
 
 pub slice_bounds-list-end : goal.slice_bounds-list-end
-slice_bounds-list-end c = let n = c.newly_forbidden-count in omega (arith, (stands_is c.args.sheet.now c.args.slip.now _ _ c.requires.0 c.requires.1 (c.read.ensures.read_as.took _ c.in-Got.is).makes refl).listed, n.ensures.0, n.auto.list)
+slice_bounds-list-end c = let n = c.newly_forbidden-count in omega (arith, (stands_is c.args.sheet.now c.args.slip.now _ _ c.requires.0 c.requires.1 (c.read.ensures.loaded_or_refused.took _ c.in-Got.is).makes refl).listed, n.ensures.0, n.auto.list)
 
 pub slice_bounds-put_stands-end : goal.slice_bounds-put_stands-end
 slice_bounds-put_stands-end c = c.newly_forbidden-count.ensures.0 ∙ sym (ap length (listed (goal.at.slice_bounds-put_stands-end c).After-newly_forbidden-count))
 
 pub put_stands-requires : goal.put_stands-requires
-put_stands-requires c = let T = (stands_is c.args.sheet.now c.args.slip.now _ _ c.requires.0 c.requires.1 (c.read.ensures.read_as.took _ c.in-Got.is).makes refl) in rw (listed (goal.at.put_stands-requires c).After-newly_forbidden-count) (T.small, omega (arith, T.room, c.requires.2))
+put_stands-requires c = let T = (stands_is c.args.sheet.now c.args.slip.now _ _ c.requires.0 c.requires.1 (c.read.ensures.loaded_or_refused.took _ c.in-Got.is).makes refl) in rw (listed (goal.at.put_stands-requires c).After-newly_forbidden-count) (T.small, omega (arith, T.room, c.requires.2))
 
 pub returns : goal.returns
-returns c = rw (stands_is c.args.sheet.now c.args.slip.now _ _ c.requires.0 c.requires.1 (c.read.ensures.read_as.took _ c.in-Got.is).makes refl).printed (rw (listed (goal.at.returns c).After-newly_forbidden-count) at c.put_stands.ensures)
+returns c = rw (stands_is c.args.sheet.now c.args.slip.now _ _ c.requires.0 c.requires.1 (c.read.ensures.loaded_or_refused.took _ c.in-Got.is).makes refl).printed (rw (listed (goal.at.returns c).After-newly_forbidden-count) at c.put_stands.ensures)
