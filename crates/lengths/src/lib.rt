@@ -120,7 +120,7 @@ pub fn least(query: Query, arcs: &[u32], marks: &[u8], goals: &[usize], work: &m
         result ≡ code (at_most query.cap (least_of G (closed_in marks.now) goals.now query.from query.to)) }
     ensures rows_filled { let N = net_of query.nodes arcs.now marks.now in
         Rowed N query.cap query.from goals.now work.new }
-    ensures kept_rows_unchanged { drop 3072 work.new ≡ drop 3072 work.old }
+    ensures behind_table_unchanged { drop 3072 work.new ≡ drop 3072 work.old }
 {
     let count = goals.len();
     let nodes = query.nodes;

@@ -51,7 +51,7 @@ pub fn ready_rows(
     scratch: &mut [u32],
 )
     requires sought { Sought header arcs.now marks.now goals.now × (length scratch.old ≡ scratch_numbers) }
-    requires rows_ready_for_three { let N = net_of header.nodes arcs.now marks.now in
+    requires rows_ready_if_first_is_three { let N = net_of header.nodes arcs.now marks.now in
         (first ≡ 3 → Rowed N header.limit header.source goals.now scratch.old) }
     ensures { let N = net_of header.nodes arcs.now marks.now in
         (member 2 marks.now ≡ true → Rowed N header.limit header.source goals.now scratch.new) }

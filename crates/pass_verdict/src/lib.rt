@@ -54,7 +54,7 @@ fn judge_together(
     scratch: &mut [u32],
 ) -> Verdict
     requires whole_with_room { Whole header arcs.now marks.now × (length goals.old ≡ 8) × (3072 ≤ length scratch.old) }
-    requires each_item_met { let S = sheet_of header arcs.now marks.now in (fits_sheet S [] ≡ true) × (unmet S ≡ []) }
+    requires fits_and_each_must_met { let S = sheet_of header arcs.now marks.now in (fits_sheet S [] ≡ true) × (unmet S ≡ []) }
     ensures { VerdictFound header arcs.now marks.now result goals.new scratch.new }
 {
     let count = sheet_required::required_items(header, arcs, marks, goals);

@@ -19,7 +19,7 @@ pub enum ListRead {
 // Judges the list at `at`: a count, and as many numbers.
 fn list_at(slip: &[u8], at: usize) -> ListRead
     ensures list_told { list_of slip.now result ≡ read_list (drop at slip.now) }
-    ensures count_is_said { ListCount slip.now result }
+    ensures as_many_as_said { ListCount slip.now result }
 {
     match varint::number_at(slip, at) {
         Number::Got(count, from) => match numbers::skip_numbers(slip, from, count as usize) {

@@ -68,7 +68,7 @@ pub fn report(sheet: &[u8], work: &mut [u32], out: &mut [u8]) -> usize
     requires { 8192 ≤ length out.old }
     ensures text_length { result ≡ length (text sheet.now (answer_to sheet.now work.old)) }
     ensures text_in_front { out.new ≡ front (text sheet.now (answer_to sheet.now work.old)) out.old }
-    ensures work_left { work.new ≡ (outcome (answer_to sheet.now work.old) work.old []).work }
+    ensures work_as_outcome { work.new ≡ (outcome (answer_to sheet.now work.old) work.old []).work }
     ensures length_inside { (result ≤ length out.new) × (result ≡ length (take result out.new)) }
 {
     let mut slip = [0u8; pass::SLIP_BYTES];

@@ -27,6 +27,6 @@ returns c =
     let G = f.ensures.fills_table N s.args.query.from goals refl F in record {
       least_length = c.reach_goals.ensures N s.args.query.from goals refl s.requires.work_and_query_fit.2 G;
       rows_filled = G.rowed;
-      kept_rows_unchanged = f.ensures.outside_table_unchanged.behind ∙ drop_further 592 3072 n.new.work r.new.work (omega arith) n.ensures.only_notes_written.1
+      behind_table_unchanged = f.ensures.outside_table_unchanged.behind ∙ drop_further 592 3072 n.new.work r.new.work (omega arith) n.ensures.only_notes_written.1
           ∙ drop_further 576 3072 r.new.work s.args.work.now (omega arith) r.ensures.behind_rows_unchanged;
     }

@@ -5,7 +5,7 @@ use native.Mathlib.Omega.{arith}
 use Rattle.pass.proofs.ready_rows.Goals as goal
 
 pub returns-then-first-eq-ALL_GOALS : goal.returns-then-first-eq-ALL_GOALS
-returns-then-first-eq-ALL_GOALS c q = c.requires.rows_ready_for_three c.if-first-eq-ALL_GOALS.true
+returns-then-first-eq-ALL_GOALS c q = c.requires.rows_ready_if_first_is_three c.if-first-eq-ALL_GOALS.true
 
 pub start_rows-requires : goal.start_rows-requires
 start_rows-requires c =

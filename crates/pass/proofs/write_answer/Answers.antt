@@ -34,7 +34,7 @@ pub ready_rows-requires : goal.ready_rows-requires
 ready_rows-requires c =
     let j = c.find_verdict-verdict in
     let u = blamed c.requires.0 j.ensures c.if-verdict-eq0.false in
-    record { sought = (whole_sought u.whole u.fit, omega (arith, c.requires.1, j.auto.scratch)); rows_ready_for_three = j.ensures.rowed }
+    record { sought = (whole_sought u.whole u.fit, omega (arith, c.requires.1, j.auto.scratch)); rows_ready_if_first_is_three = j.ensures.rowed }
 
 pub slice_bounds-list_for_sheet-end : goal.slice_bounds-list_for_sheet-end
 slice_bounds-list_for_sheet-end c = goals-long (goal.at.slice_bounds-list_for_sheet-end c).After-find_verdict-verdict

@@ -20,4 +20,4 @@ returns-then-item-header c =
 pub judge_together-requires : goal.judge_together-requires
 judge_together-requires c =
     let u = c.first_unmet-item in
-    record { whole_with_room = (c.requires.0.whole, c.requires.1, c.requires.2); each_item_met = (some_walk c.requires.0 c.if-rows-target.false, unmet_empty c.requires.0.whole u.result u.ensures c.if-item-header.false) }
+    record { whole_with_room = (c.requires.0.whole, c.requires.1, c.requires.2); fits_and_each_must_met = (some_walk c.requires.0 c.if-rows-target.false, unmet_empty c.requires.0.whole u.result u.ensures c.if-item-header.false) }

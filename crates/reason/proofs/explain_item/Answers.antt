@@ -34,7 +34,7 @@ returns-then-not-is_pruned c =
 pub ready_rows-requires : goal.ready_rows-requires
 ready_rows-requires c =
     let u = unmet (goal.at.ready_rows-requires c).Else-not-is_pruned in
-    record { sought = (whole_sought u.whole u.fit, omega (arith, c.requires.1, c.is_pruned.auto.scratch)); rows_ready_for_three = λ q. absurd (omega arith) }
+    record { sought = (whole_sought u.whole u.fit, omega (arith, c.requires.1, c.is_pruned.auto.scratch)); rows_ready_if_first_is_three = λ q. absurd (omega arith) }
 
 pub list_for_sheet-n-requires : goal.list_for_sheet-n-requires
 list_for_sheet-n-requires c =

@@ -13,7 +13,7 @@ pub returns-else-end-slip : goal.returns-else-end-slip
 returns-else-end-slip c = record {
   lists_told = lists_read _ _ c.in-Got.ensures.list_told _ _
       c.in-Got-list_at.ensures.list_told c.if-end-slip.false;
-  slip_counts = (c.in-Got.ensures.count_is_said, c.in-Got-list_at.ensures.count_is_said);
+  slip_counts = (c.in-Got.ensures.as_many_as_said, c.in-Got-list_at.ensures.as_many_as_said);
 }
 
 pub returns-in-Refused-list_at : goal.returns-in-Refused-list_at

@@ -16,7 +16,7 @@ returns-then-answer-gt0 c =
     let p = c.pass-answer in
     let r = refuses c.args.sheet.now c.args.work.now _ (omega arith) _ _ _ _ p.ensures c.if-answer-gt0.true in
     let w = c.put_refused.ensures in
-    rw (refused_text_lem c.args.sheet.now r.is) (record { text_length = w.0; text_in_front = w.1; work_left = work_left c.args.sheet.now c.args.work.now _ (omega arith) _ _ _ _ p.ensures; length_inside = within (refused_text p.result.number) _ _ _ w.0 w.1 })
+    rw (refused_text_lem c.args.sheet.now r.is) (record { text_length = w.0; text_in_front = w.1; work_as_outcome = work_left c.args.sheet.now c.args.work.now _ (omega arith) _ _ _ _ p.ensures; length_inside = within (refused_text p.result.number) _ _ _ w.0 w.1 })
 
 pub slice_bounds-slip-end : goal.slice_bounds-slip-end
 slice_bounds-slip-end c =
@@ -38,4 +38,4 @@ returns c =
     let p = c.pass-answer in
     let r = finishes c.args.sheet.now c.args.work.now _ (omega arith) _ _ _ _ p.ensures c.if-answer-gt0.false in
     let w = c.put_slip_text.ensures in
-    rw (finished_text c.args.sheet.now r.is) (record { text_length = w.0; text_in_front = w.1; work_left = work_left c.args.sheet.now c.args.work.now _ (omega arith) _ _ _ _ p.ensures; length_inside = within (slip_text c.args.sheet.now (take p.result.length p.new.slip)) _ _ _ w.0 w.1 })
+    rw (finished_text c.args.sheet.now r.is) (record { text_length = w.0; text_in_front = w.1; work_as_outcome = work_left c.args.sheet.now c.args.work.now _ (omega arith) _ _ _ _ p.ensures; length_inside = within (slip_text c.args.sheet.now (take p.result.length p.new.slip)) _ _ _ w.0 w.1 })
