@@ -1,5 +1,5 @@
-// The planner's layer (document 01, 'The operations and what they refuse'): the operations with numbers and slices alone. What a program in C calls are
-// the functions of the same names in `planner_c`, which call these.
+// The planner's layer: the operations with numbers and slices alone, and their refusals as one number. What a program in C calls are the functions of the
+// same names in `planner_c`, which call these.
 //
 // The work is lent as bytes, four per number, low byte first. What its numbers hold has no effect on an answer, and an operation leaves them as found or zero;
 // so each call lends the operation nothing of them, and the bytes are left as found or zeroed by the same rule. That this is what copying the bytes in and

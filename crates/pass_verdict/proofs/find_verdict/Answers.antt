@@ -1,4 +1,4 @@
--- `pass_verdict::find_verdict` meets its contract: the three tests in document 01's order. Assumes nothing.
+-- `pass_verdict::find_verdict` meets its contract: the tests for verdicts 1, 2 and 3, in this order. Assumes nothing.
 use mathlib.Core.Path.{sym, ◌∙◌}
 use native.Mathlib.Omega.{arith}
 use lib.Seq.{take-suc-set}
