@@ -12,32 +12,22 @@ use Rattle.sheet.specs.Sheet.{Sheet}
 use Rattle.sheet.specs.Slip.{Slip, read_slip}
 use Rattle.sheet.specs.Reader.{taken}
 use Rattle.sheet.specs.Lent.{zeroed, work_after}
-use Rattle.slip_reader.specs.Form.{slip_of}
-use Rattle.slip_reader.specs.declared.SlipForm.{SlipForm}
-use Rattle.slip_reader.specs.declared.SlipRead.{SlipRead}
-use Rattle.slip_reader.specs.declared.SlipRead.TheVariants.{Got as SlipGot, Refused as SlipRefused}
 use Rattle.work.proofs.LeftLaws.{left_finished, left_refused}
 use Rattle.work.specs.Left.{left}
 use Rattle.check_rules.proofs.WithinLaws.{Drawn, check_drawn, drawn_fits}
 use Rattle.check_rules.specs.Check.{judged_on, check_on, CheckOutcome, check_outcome, checked}
 use Rattle.check_answer.specs.declared.CheckAnswer.{CheckAnswer}
 use Rattle.check_answer.specs.Answer.{check_answer_of}
-use Rattle.checker.specs.Written.{form_of}
 
 -- the answer on a slip, from how it is written
-module _ (S : Sheet) (slip : List ℕ) (r : SlipRead) (e : slip_of slip r ≡ read_slip slip) where
-  read_as : {q : SlipRead} → r ≡ q → check_answer_of (after (slip_of slip q) (judged_on S)) ≡ check_answer_of (after (read_slip slip) (judged_on S))
-  read_as p = ap (λ (x : Read Slip). check_answer_of (after x (judged_on S))) (ap (slip_of slip) (sym p) ∙ e)
-
-  pub answer_form : {f : SlipForm} {a : CheckAnswer} → r ≡ SlipGot f
-      → a ≡ check_answer_of (judged_on S (form_of slip f) [])
-      → a ≡ check_answer_of (after (read_slip slip) (judged_on S))
+module _ (S : Sheet) (slip : List ℕ) where
+  pub answer_form : {s : Slip} {a : CheckAnswer} → read_slip slip ≡ got s [] → a ≡ check_answer_of (judged_on S s []) → a ≡ check_answer_of (after (read_slip slip) (judged_on S))
   unfolding after
-  answer_form p z = z ∙ read_as p
+  answer_form q z = rw q z
 
-  pub answer_unformed : {a : CheckAnswer} → r ≡ SlipRefused → a ≡ check_answer_of (refuse 17) → a ≡ check_answer_of (after (read_slip slip) (judged_on S))
+  pub answer_unformed : {a : CheckAnswer} → read_slip slip ≡ refuse 17 → a ≡ check_answer_of (refuse 17) → a ≡ check_answer_of (after (read_slip slip) (judged_on S))
   unfolding after
-  answer_unformed p z = z ∙ read_as p
+  answer_unformed q z = rw q z
 
 -- the answer's number and yes, and the work
 abbrev given : CheckAnswer → List ℕ → CheckOutcome

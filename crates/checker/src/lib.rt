@@ -6,16 +6,13 @@ ghost use Rattle.varint.specs.Varint.{after};
 ghost use Rattle.sheet.specs.Slip.{read_slip};
 ghost use Rattle.sheet.specs.Sheet.{sheet_of};
 ghost use Rattle.sheet_required.specs.Whole.{Whole};
-ghost use Rattle.slip_reader.specs.Form.{SlipCounts};
-ghost use Rattle.slip_reader.specs.declared.SlipRead.TheVariants.{Got};
+ghost use Rattle.slip_reader.specs.Form.{slip_in};
 ghost use Rattle.check_rules.specs.Check.{judged_on, check_on, checked};
 ghost use Rattle.check_answer.specs.Answer.{check_answer_of};
-ghost use Rattle.checker.specs.Written.{form_of};
 
 use check_answer::CheckAnswer;
 use sheet::Header;
-use sheet_reader::SheetRead;
-use slip_reader::{SlipForm, SlipRead};
+use slip_reader::SlipForm;
 use walks::{ARC_NUMBERS, GOALS, ITEMS};
 
 // Judges the goals and the reasons of a slip: 18, or yes or no.
@@ -23,24 +20,19 @@ fn answer_lists(
     header: Header,
     arcs: &[u32],
     marks: &[u8],
-    slip: &[u8],
-    form: SlipForm,
+    form: &SlipForm,
     scratch: &mut [u32],
 ) -> CheckAnswer
-    requires sheet_and_slip_whole { Whole header arcs.now marks.now × (3072 ≤ length scratch.old) × SlipCounts slip.now (Got form) }
-    requires lists_short { (form.goals ≤ 8) × (form.reasons ≤ header.nodes + header.arcs) }
+    requires sheet_whole { Whole header arcs.now marks.now × (3072 ≤ length scratch.old) }
+    requires lists_short { (form.now.goals.count ≤ 8) × (form.now.reasons.count ≤ header.nodes + header.arcs) }
     ensures { let S = sheet_of header arcs.now marks.now in
-        result ≡ check_answer_of (judged_on S (form_of slip.now form) []) }
+        result ≡ check_answer_of (judged_on S (slip_in form.now) []) }
 {
     let first = form.first;
-    let goal_count = form.goals as usize;
-    let reason_count = form.reasons as usize;
     let mut goal_list = [0usize; GOALS];
     let mut reason_list = [0usize; ITEMS];
-    numbers::numbers_at(slip, form.goals_at, goal_count, &mut goal_list);
-    numbers::numbers_at(slip, form.reasons_at, reason_count, &mut reason_list);
-    let goals = &goal_list[..goal_count];
-    let reasons = &reason_list[..reason_count];
+    let goals = form.goals.read(&mut goal_list);
+    let reasons = form.reasons.read(&mut reason_list);
     if !check_claim::well_formed(header, first, goals, reasons) {
         return check_answer::refused(18);
     }
@@ -52,14 +44,11 @@ fn answer_lists(
 }
 
 // Whether a slip has more goals or reasons than any that is well formed.
-fn too_long(header: Header, form: SlipForm) -> bool
+fn too_long(header: Header, form: &SlipForm) -> bool
     requires { (header.nodes ≤ 64) × (header.arcs ≤ 512) }
-    ensures { result ≡ (ltb 8 form.goals || ltb (header.nodes + header.arcs) form.reasons) }
+    ensures { result ≡ (ltb 8 form.now.goals.count || ltb (header.nodes + header.arcs) form.now.reasons.count) }
 {
-    if form.goals as usize > GOALS {
-        return true;
-    }
-    form.reasons as usize > header.nodes + header.arcs
+    form.goals.count as usize > GOALS || form.reasons.count as usize > header.nodes + header.arcs
 }
 
 // Judges a slip against a sheet that was taken: 17, 18, or yes or no. A list that is longer than any that is well formed is not read.
@@ -75,13 +64,13 @@ pub fn answer_slip(
         result ≡ check_answer_of (after (read_slip slip.now) (judged_on S)) }
 {
     match slip_reader::judge_slip(slip) {
-        SlipRead::Got(form) => {
-            if too_long(header, form) {
+        Ok(form) => {
+            if too_long(header, &form) {
                 return check_answer::refused(18);
             }
-            answer_lists(header, arcs, marks, slip, form, scratch)
+            answer_lists(header, arcs, marks, &form, scratch)
         }
-        SlipRead::Refused => check_answer::refused(17),
+        Err(why) => check_answer::refused(u32::from(why)),
     }
 }
 
@@ -102,8 +91,8 @@ pub fn check_sheet(sheet: &[u8], slip: &[u8]) -> CheckAnswer
     let mut arcs = [0u32; ARC_NUMBERS];
     let mut marks = [0u8; ITEMS];
     let header = match sheet_reader::read(sheet, &mut arcs, &mut marks) {
-        SheetRead::Got(header) => header,
-        SheetRead::Refused(why) => return check_answer::refused(why),
+        Ok(header) => header,
+        Err(why) => return check_answer::refused(u32::from(why)),
     };
     let numbers = 3 * header.arcs;
     let items = header.nodes + header.arcs;

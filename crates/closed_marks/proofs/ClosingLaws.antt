@@ -1,9 +1,10 @@
--- Marks by which the listed items are closed: they are closed from the last to the first, and one may be opened again. Assumes nothing.
-use Prim.Native.Nat.{ℕ, suc, ◌-◌, ◌≤◌, ◌<◌}
-use mathlib.Core.Path.{◌≡◌, refl, sym, ap, ◌∙◌, fun_ext}
-use mathlib.Core.Bool.{Bool, true, false, not, ◌&&◌}
-use mathlib.Core.List.{List, ◌∷◌}
+-- Marks by which the listed items are closed: they are closed one by one, and one may be opened again. Assumes nothing.
+use Prim.Native.Nat.{ℕ, suc, ◌+◌, ◌≤◌, ◌<◌}
+use mathlib.Core.Path.{◌≡◌, refl, ap, ◌∙◌, fun_ext}
+use mathlib.Core.Bool.{Bool, true, false, not, ◌&&◌, ◌||◌}
+use mathlib.Core.List.{List}
 use native.Mathlib.Omega.{arith}
+use native.Mathlib.Numerals.{add-one}
 use lib.ListN.{length, get_or, drop, set, length-set, replicate, drop_of_length-le}
 use lib.Seq.{drop-cons, get_or-set_same, get_or-set_other}
 use lib.Dec.{eqb}
@@ -16,45 +17,39 @@ use Rattle.walks.specs.Lengths.{Least, within}
 use Rattle.reason_list.specs.Reasons.{but}
 use Rattle.closed_marks.specs.Closing.{Markable, Closing}
 
--- the items from i on are closed
+-- what stands before place i is closed: the marks need the list from i on
 pub record ClosingFrom (list marks : List ℕ) (i : ℕ) : Type 0 where
-  pub within : i ≤ length list
-  pub closed : Closing (λ j. member j (drop i list)) marks
+  pub size : length marks ≡ 576
+  pub rest : (j : ℕ) → pick (member j (drop i list)) 2 (get_or marks j 0) ≡ pick (member j list) 2 0
 
-at_end : (n : ℕ) → n ≤ n
-at_end n = omega arith
+pub closing_begun : (list : List ℕ) → ClosingFrom list (replicate 576 0) 0
+closing_begun list = record { size = refl; rest = λ j. ap (pick (member j list) 2) (zeros_at 576 j) }
 
-pub closing_begun : (list : List ℕ) → ClosingFrom list (replicate 576 0) (length list)
+same : (b : Bool) → ◌≡◌ {A = ℕ} (pick b 2 2) 2
+same true = refl
+same false = refl
+
+-- one item more
+pub closing_more : (list marks : List ℕ) (i : ℕ) → i < length list → Markable list → ClosingFrom list marks i → ClosingFrom list (set marks (get_or list i 0) 2) (i + 1)
 unfolding member
-closing_begun list = record {
-  within = omega arith;
-  closed = record { size = refl; each = λ j. zeros_at 576 j ∙ ap (λ (t : Bool). pick t 2 0) (sym (ap (member j) (drop_of_length-le list (at_end (length list))))) };
-}
+closing_more list marks i h b c = record { size = length-set marks x 2 ∙ c.size; rest = λ j. rw add-one (go j (eqb j x) refl (rw (drop-cons list i 0 h) at c.rest j)) }
+  where
+    x : ℕ
+    x = get_or list i 0
 
-close_one : (xs marks : List ℕ) (x : ℕ) → x < 576 → Closing (λ j. member j xs) marks → Closing (λ j. member j (x ∷ xs)) (set marks x 2)
+    low : x < 576
+    low = b x (place_member list i h)
+
+    go : (j : ℕ) (t : Bool) → eqb j x ≡ t → pick (t || member j (drop (suc i) list)) 2 (get_or marks j 0) ≡ pick (member j list) 2 0
+        → pick (member j (drop (suc i) list)) 2 (get_or (set marks x 2) j 0) ≡ pick (member j list) 2 0
+    go j true q e =
+        let two : get_or (set marks x 2) j 0 ≡ 2 = ap (λ (k : ℕ). get_or (set marks x 2) k 0) (eqb-true j x q) ∙ get_or-set_same marks x 2 0 (omega (arith, low, c.size)) in
+        ap (pick (member j (drop (suc i) list)) 2) two ∙ same (member j (drop (suc i) list)) ∙ e
+    go j false q e = ap (pick (member j (drop (suc i) list)) 2) (get_or-set_other marks x j 2 0 (eqb-false j x q)) ∙ e
+
+pub closing_done : (list marks : List ℕ) (i : ℕ) → length list ≤ i → ClosingFrom list marks i → Closing (λ j. member j list) marks
 unfolding member
-close_one xs marks x h c = record { size = length-set marks x 2 ∙ c.size; each = λ j. go j (eqb j x) refl }
-  where
-    go : (j : ℕ) (t : Bool) → eqb j x ≡ t → get_or (set marks x 2) j 0 ≡ pick (member j (x ∷ xs)) 2 0
-    go j true q = rw q (ap (λ (k : ℕ). get_or (set marks x 2) k 0) (eqb-true j x q) ∙ get_or-set_same marks x 2 0 (omega (arith, c.size)))
-    go j false q = rw q (get_or-set_other marks x j 2 0 (eqb-false j x q) ∙ c.each j)
-
--- one item more, before those that are closed
-pub closing_more : (list marks : List ℕ) (i : ℕ) → 0 < i → Markable list → ClosingFrom list marks i
-    → ClosingFrom list (set marks (get_or list (i - 1) 0) 2) (i - 1)
-closing_more list marks i l b c = record { within = omega (arith, c.within); closed = rw e (close_one (drop i list) marks (get_or list (i - 1) 0) low c.closed) }
-  where
-    near : i - 1 < length list
-    near = omega (arith, c.within)
-
-    low : get_or list (i - 1) 0 < 576
-    low = b (get_or list (i - 1) 0) (place_member list (i - 1) near)
-
-    e : drop (i - 1) list ≡ get_or list (i - 1) 0 ∷ drop i list
-    e = drop-cons list (i - 1) 0 near ∙ ap (λ (k : ℕ). get_or list (i - 1) 0 ∷ drop k list) (let z : suc (i - 1) ≡ i = omega arith in z)
-
-pub closing_done : (list marks : List ℕ) (i : ℕ) → i ≤ 0 → ClosingFrom list marks i → Closing (λ j. member j list) marks
-closing_done list marks i l c = let z : i ≡ 0 = omega arith in rw z at c.closed
+closing_done list marks i h c = record { size = c.size; each = λ j. rw (drop_of_length-le list h) at c.rest j }
 
 and_yes : (b : Bool) → (b && true) ≡ b
 and_yes true = refl

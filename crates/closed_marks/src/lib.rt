@@ -13,11 +13,8 @@ pub fn closing(list: &[usize]) -> [u8; ITEMS]
     requires { Markable list.now }
     ensures { Closing (λ j. member j list.now) result }
 {
-    let mut marks = [0u8; ITEMS];
-    let mut i = list.len();
-    while 0 < i {
-        i -= 1;
-        let item = list[i];
+    let mut marks = [OPEN; ITEMS];
+    for &item in list {
         marks[item] = FORBIDDEN;
     }
     marks

@@ -1,68 +1,70 @@
 -- A length as a number, and the line that it gives. No length of a sheet comes near the cap, so none is cut off. Assumes nothing.
-use Prim.Native.Nat.{ℕ, ◌≤◌, ◌<◌}
-use mathlib.Core.Path.{◌≡◌, refl, sym, ap, ◌∙◌}
-use mathlib.Core.List.{List, [], ◌∷◌}
+use Prim.Native.Nat.{ℕ, ◌≤◌}
+use mathlib.Core.Path.{◌≡◌, refl, ap, ◌∙◌}
+use mathlib.Core.List.{List, [], ◌∷◌, ◌++◌}
 use native.Mathlib.Omega.{arith}
-use borrow.Author.Tests.{eq-eqb, ne_eqb, le-leb}
+use borrow.Author.Tests.{le-leb}
 use Rattle.lists.specs.Lists.{member}
 use Rattle.walks.proofs.Bound.{least_bound}
 use Rattle.walks.specs.Flat.{graph_of}
 use Rattle.walks.specs.Graph.{closed_in, least}
 use Rattle.walks.specs.Lengths.{Least, none, some}
-use Rattle.rows.specs.Held.{missing, held, at_most, kept, code}
+use Rattle.rows.specs.Held.{at_most, kept}
 use Rattle.sheet.proofs.SheetLaws.{good_weight}
 use Rattle.sheet.specs.declared.Header.{Header}
-use Rattle.sheet.specs.Sheet.{sheet_of}
+use Rattle.sheet.specs.Sheet.{sheet_of, is_forbidden}
 use Rattle.reason_list.specs.Reasons.{but}
 use Rattle.closed_marks.proofs.ClosingLaws.{clear_least}
 use Rattle.closed_marks.specs.Closing.{Closing}
-use Rattle.text_lines.specs.Lines.{number_line, difference_line}
-use Rattle.cost_rules.specs.Cost.{length_through, none_line, slack_line, length_line, length_opened}
-use Rattle.cost_lines.specs.Ask.{Mapped, length_of}
+use Rattle.text_lines.specs.Lines.{number_line, difference_line, lines}
+use Rattle.cost_rules.specs.Cost.{length_through, none_line, slack_line, length_line, length_opened, opened_line, cost_lines}
+use Rattle.lengths.specs.Told.{as_least}
+use Rattle.cost_lines.specs.Ask.{Mapped}
+use Rattle.std.specs.declared.option.Option.{Option}
+use Rattle.std.specs.declared.option.Option.TheVariants.{None, Some}
 
-pub of_missing : (x : ℕ) → x ≡ missing → length_of x ≡ none
-unfolding length_of
-of_missing x h = rw (eq-eqb x missing h)
-
-pub of_length : (x : ℕ) → (x ≡ missing → ⊥) → length_of x ≡ some x
-unfolding length_of
-of_length x h = rw (ne_eqb x missing h)
-
--- a length within the cap is the one that its number stands for
-held_back : (cap : ℕ) (r : Least) → cap < missing → ((a : ℕ) → r ≡ some a → a ≤ cap) → length_of (held cap r) ≡ r
-unfolding held at_most kept code
-held_back cap none h f = of_missing missing refl
-held_back cap (some a) h f = rw (le-leb a cap (f a refl)) (of_length a (λ z. omega (arith, z, f a refl)))
+-- a length that the cap does not cut off
+within_cap : (cap : ℕ) (r : Least) → ((a : ℕ) → r ≡ some a → a ≤ cap) → at_most cap r ≡ r
+unfolding at_most kept
+within_cap cap none f = refl
+within_cap cap (some a) f = rw (le-leb a cap (f a refl)) refl
 
 -- of a sheet that was taken, whatever is closed
-pub length_is : {h : Header} {arcs : List ℕ} → Mapped h arcs → (marks : List ℕ) (i x : ℕ)
-    → x ≡ held 4294967294 (least (graph_of h.nodes arcs) (closed_in marks) (i ∷ []) h.source h.target)
-    → length_of x ≡ least (graph_of h.nodes arcs) (closed_in marks) (i ∷ []) h.source h.target
-length_is {h} {arcs} (own, W) marks i x e =
-    ap length_of e ∙ held_back 4294967294 _ (omega arith)
+pub length_is : {h : Header} {arcs : List ℕ} → Mapped h arcs → (marks : List ℕ) (i : ℕ)
+    → at_most 4294967294 (least (graph_of h.nodes arcs) (closed_in marks) (i ∷ []) h.source h.target)
+    ≡ least (graph_of h.nodes arcs) (closed_in marks) (i ∷ []) h.source h.target
+length_is {h} {arcs} (own, W) marks i =
+    within_cap 4294967294 _
     (λ a q. omega (arith, (least_bound (graph_of h.nodes arcs) (closed_in marks) (i ∷ []) h.source h.target 66135 a (good_weight (sheet_of h arcs own) W.good) W.good.nodes (omega arith) q).1))
 
 -- with one of the listed closures open
-pub opened_is : (h : Header) (arcs list marks : List ℕ) (i r x : ℕ) → Closing (but (λ j. member j list) r) marks
-    → length_of x ≡ least (graph_of h.nodes arcs) (closed_in marks) (i ∷ []) h.source h.target
-    → length_of x ≡ length_opened (sheet_of h arcs []) i list r
-unfolding length_opened length_through
-opened_is h arcs list marks i r x c e = e ∙ clear_least (graph_of h.nodes arcs) h.source h.target (i ∷ []) c
+pub opened_is : (h : Header) (arcs list marks : List ℕ) (i r : ℕ) (l : Least) → Closing (but (λ j. member j list) r) marks
+    → l ≡ least (graph_of h.nodes arcs) (closed_in marks) (i ∷ []) h.source h.target
+    → length_line l ≡ opened_line (sheet_of h arcs []) i list r
+unfolding opened_line length_opened length_through
+opened_is h arcs list marks i r l c e = ap length_line (e ∙ clear_least (graph_of h.nodes arcs) h.source h.target (i ∷ []) c)
 
--- the lines
-module _ {x : ℕ} {r : Least} (e : length_of x ≡ r) where
-  pub slack_none : (k : ℕ) → x ≡ missing → slack_line k r ≡ none_line
-  unfolding slack_line
-  slack_none k h = ap (slack_line k) (sym e ∙ of_missing x h)
+-- what the sheet's marks close, and the lines of the listed closures, which do not speak of them
+pub costs_are : (h : Header) (arcs marks list : List ℕ) (i : ℕ) (l : Least) (bs : List ℕ)
+    → l ≡ least (graph_of h.nodes arcs) (closed_in marks) (i ∷ []) h.source h.target
+    → bs ≡ lines (opened_line (sheet_of h arcs []) i list) list
+    → slack_line h.limit l ++ bs ≡ cost_lines (sheet_of h arcs marks) i list
+unfolding cost_lines opened_line length_opened length_through is_forbidden
+costs_are h arcs marks list i l bs e z = rw (e, z) refl
 
-  pub slack_some : (k : ℕ) → (x ≡ missing → ⊥) → slack_line k r ≡ difference_line k x
-  unfolding slack_line
-  slack_some k h = ap (slack_line k) (sym e ∙ of_length x h)
+-- the lines as they are written
+pub none_written : (o : Option ℕ) → o ≡ None → 110 ∷ 111 ∷ 110 ∷ 101 ∷ 10 ∷ [] ≡ length_line (as_least o)
+unfolding length_line none_line
+none_written o e = rw e refl
 
-  pub length_none : x ≡ missing → length_line r ≡ none_line
-  unfolding length_line
-  length_none h = ap length_line (sym e ∙ of_missing x h)
+pub length_written : (o : Option ℕ) (a : ℕ) → o ≡ Some a → number_line a ≡ length_line (as_least o)
+unfolding length_line
+length_written o a e = rw e refl
 
-  pub length_some : (x ≡ missing → ⊥) → length_line r ≡ number_line x
-  unfolding length_line
-  length_some h = ap length_line (sym e ∙ of_length x h)
+pub no_slack_written : (k : ℕ) (o : Option ℕ) → o ≡ None → length_line (as_least None) ≡ slack_line k (as_least o)
+unfolding length_line slack_line
+no_slack_written k o e = rw e refl
+
+pub slack_written : (k : ℕ) (o : Option ℕ) (a : ℕ) → o ≡ Some a → difference_line k a ≡ slack_line k (as_least o)
+unfolding slack_line
+slack_written k o a e = rw e refl

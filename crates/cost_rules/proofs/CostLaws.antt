@@ -1,7 +1,7 @@
 -- The promises of request 2.4, over every input: the slack is negative or `none`, each later line a number within the limit, the refusals are those of
 -- reason, and the text has room in 8,192 bytes. A struck item is one that no walk meets within the limit; a listed closure is one whose opening, with all
 -- that is not listed, lets some walk meet it (demand 3). Assumes nothing.
-use Prim.Native.Nat.{ℕ, ◌-◌, ◌≤◌, ◌<◌}
+use Prim.Native.Nat.{ℕ, ◌-◌, ◌^◌, ◌≤◌, ◌<◌}
 use mathlib.Core.Path.{◌≡◌, refl, sym, ap, ◌∙◌}
 use mathlib.Core.Logic.{◌⊎◌, inl, inr, ◌↔◌}
 use mathlib.Core.Bool.{Bool, true, false, true≢false}
@@ -12,6 +12,7 @@ use borrow.Author.Tests.{leb-true, leb-false}
 use Rattle.lists.proofs.MemberLaws.{member_head, member_tail}
 use Rattle.lists.specs.Lists.{member}
 use Rattle.varint.specs.Varint.{Read, got, refuse, after, read_number}
+use Rattle.walks.proofs.Bound.{least_bound}
 use Rattle.walks.proofs.FitsLaws.{some_fits}
 use Rattle.walks.proofs.LeastLaw.{IsLeast, is_least}
 use Rattle.walks.specs.Graph.{fits}
@@ -20,7 +21,8 @@ use Rattle.sheet.proofs.RefusalLaws.{AmongThese, number_refuses}
 use Rattle.sheet.specs.Answer.{finished, refused, answer_of}
 use Rattle.sheet.specs.Sheet.{Sheet, is_forbidden}
 use Rattle.reason_list.specs.Reasons.{but}
-use Rattle.sheet.proofs.SheetLaws.{taken_good}
+use Rattle.sheet.proofs.SheetLaws.{taken_good, good_weight}
+use Rattle.sheet.specs.Good.{Good}
 use Rattle.pass_rules.proofs.SlipOfPass.{reasons_count}
 use Rattle.sheet.specs.Reader.{taken}
 use Rattle.pass_rules.specs.Verdict.{fits_sheet, reasons_for}
@@ -28,9 +30,9 @@ use Rattle.reason_rules.proofs.AnswerLaws.{reason_finished}
 use Rattle.reason_rules.proofs.Demand3.{pruned_unmet, list_minimal}
 use Rattle.reason_rules.proofs.WithinLaws.{reason_refusals, reason_refused}
 use Rattle.reason_rules.specs.Reason.{reason_in, reason_on}
-use Rattle.text_lines.proofs.LineLaws.{difference_high, line_size, number_size, difference_size, lines_size}
+use Rattle.text_lines.proofs.LineLaws.{difference_high, number_size, difference_size, lines_size}
 use Rattle.text_lines.specs.Lines.{number_line, lines}
-use Rattle.text_answer.proofs.LineParts.{refused_size}
+use Rattle.text_answer.proofs.SizeLaws.{refused_size}
 use Rattle.cost_rules.specs.Cost.{length_through, none_line, slack_line, length_line, length_opened, opened_line, cost_lines, cost_in, cost_for, cost_on, text_of, cost_text}
 
 -- what is printed is about walks of any number of arcs
@@ -132,7 +134,7 @@ pub record Told (S : Sheet) (i : ℕ) (list text : List ℕ) : Type 0 where
 opened_each : (S : Sheet) (i : ℕ) (list rs : List ℕ)
     → ((r : ℕ) → member r rs ≡ true → (a : ℕ) × (length_opened S i list r ≡ some a) × (a ≤ S.limit))
     → (lengths : List ℕ) × Opened S i list rs lengths × (lines (opened_line S i list) rs ≡ lines number_line lengths)
-unfolding lines opened_line length_line
+unfolding opened_line length_line
 opened_each S i list [] f = ([], tt, refl)
 opened_each S i list (r ∷ rs) f =
     let a = f r (member_head r rs) in
@@ -171,26 +173,40 @@ module _ (input sheet slip : List ℕ) (i : ℕ) (S : Sheet) (n : read_number in
         says = cost_finishes ∙ ap (λ (bs : List ℕ). slack_line S.limit (length_through S (is_forbidden S) i) ++ bs) l.2;
       }
 
--- how long a line is
+-- how long a line is, of a length that has 32 bits
+abbrev Short : Least → Type 0
+Short r = (a : ℕ) → r ≡ some a → a < 2 ^ 32
+
 pub none_size : length none_line ≤ 5
 unfolding none_line
-none_size = line_size _ []
+none_size = omega arith
 
-pub slack_size : (k : ℕ) (r : Least) → length (slack_line k r) ≤ 12
+pub slack_size : (k : ℕ) (r : Least) → k < 2 ^ 32 → Short r → length (slack_line k r) ≤ 12
 unfolding slack_line
-slack_size k none = omega (arith, none_size)
-slack_size k (some a) = difference_size k a
+slack_size k none h s = omega (arith, none_size)
+slack_size k (some a) h s = difference_size k a h (s a refl)
 
-pub length_size : (r : Least) → length (length_line r) ≤ 11
+pub length_size : (r : Least) → Short r → length (length_line r) ≤ 11
 unfolding length_line
-length_size none = omega (arith, none_size)
-length_size (some a) = number_size a
+length_size none s = omega (arith, none_size)
+length_size (some a) s = number_size a (s a refl)
 
-pub lines_fit : (S : Sheet) (i : ℕ) (list : List ℕ) → length list ≤ 576 → length (cost_lines S i list) ≤ 8192
-unfolding cost_lines opened_line
-lines_fit S i list h =
+-- no length of a sheet is longer
+length_short : (S : Sheet) → Good S → (closed : ℕ → Bool) (i : ℕ) → Short (length_through S closed i)
+unfolding length_through
+length_short S g closed i a e =
+    let b = least_bound S.graph closed (i ∷ []) S.source S.target 66135 a (good_weight S g) g.nodes (omega arith) e in
+    omega (arith, b.1)
+
+opened_size : (S : Sheet) → Good S → (i : ℕ) (list : List ℕ) (r : ℕ) → length (opened_line S i list r) ≤ 11
+unfolding opened_line length_opened
+opened_size S g i list r = length_size _ (length_short S g (but (λ j. member j list) r) i)
+
+pub lines_fit : (S : Sheet) → Good S → (i : ℕ) (list : List ℕ) → length list ≤ 576 → length (cost_lines S i list) ≤ 8192
+unfolding cost_lines
+lines_fit S g i list h =
     simp length-append
-    (omega (arith, slack_size S.limit (length_through S (is_forbidden S) i), lines_size (opened_line S i list) 11 (λ r. length_size (length_opened S i list r)) list))
+    (omega (arith, slack_size S.limit (length_through S (is_forbidden S) i) (omega (arith, g.limit)) (length_short S g (is_forbidden S) i), lines_size (opened_line S i list) 11 (opened_size S g i list) list))
 
 -- The text has room in 8,192 bytes.
 pub cost_size : (input : List ℕ) → length (cost_text input) ≤ 8192
@@ -205,7 +221,7 @@ cost_size input = read (read_number input)
         item (refuse w) = refused_size w
         item (got slip end) =
             let g = taken_good sheet S rest q in
-            lines_fit S i (reasons_for S (i ∷ [])) (omega (arith, reasons_count S (i ∷ []), g.nodes, g.arcs))
+            lines_fit S g i (reasons_for S (i ∷ [])) (omega (arith, reasons_count S (i ∷ []), g.nodes, g.arcs))
 
     read : (r : Read ℕ) → length (text_of (answer_of (after r cost_for))) ≤ 8192
     read (refuse w) = refused_size w

@@ -7,13 +7,13 @@
 ghost use Rattle.std.specs.Prelude.{◌≤◌, length};
 
 use sheet::Header;
-use sheet_reader::SheetRead;
+use sheet_writer::Draft;
 use std::io;
-use store::{Putting, SLOTS, Store};
-use store_slot::{SLOT_ITEMS, Slot};
-use varint::Number;
+use store::{Putting, Store};
+use store_slot::Slot;
+use varint::{Bytes, Refusal};
 use walks::{ARC_NUMBERS, ITEMS, NODES};
-use work::{Answer, WORK_NUMBERS};
+use work::WORK_NUMBERS;
 
 // A few more work numbers than an operation asks for, and a slip longer than asked for.
 const WORK_LENT: usize = WORK_NUMBERS + 6;
@@ -41,28 +41,15 @@ const FILLED_BYTE: u8 = 165;
 
 // Whether the bytes from `from` on are as they were filled.
 fn is_kept(bytes: &[u8], from: usize) -> bool {
-    let mut i = from;
-    while i < bytes.len() {
-        if bytes[i] != FILLED_BYTE {
-            return false;
-        }
-        i += 1;
-    }
-    true
+    bytes.iter().skip(from).all(|&byte| byte == FILLED_BYTE)
 }
 
 // Whether the numbers from `from` up to `to` are all `value`.
 fn is_work_all(work: &[u32], from: usize, to: usize, value: u32) -> bool {
-    let mut i = from;
-    while i < to {
-        if i < work.len() {
-            if work[i] != value {
-                return false;
-            }
-        }
-        i += 1;
-    }
-    true
+    work.iter()
+        .take(to)
+        .skip(from)
+        .all(|&number| number == value)
 }
 
 // Prints a number in hex behind a space, in two digits where they are enough.
@@ -77,12 +64,8 @@ fn print_byte(rt: &impl Print, byte: u8) -> io::Result<()> {
 
 // Prints the first `count` bytes in hex.
 fn print_bytes(rt: &impl Print, bytes: &[u8], count: usize) -> io::Result<()> {
-    let mut i: usize = 0;
-    while i < count {
-        if i < bytes.len() {
-            print_byte(rt, bytes[i])?;
-        }
-        i += 1;
+    for &byte in bytes.iter().take(count) {
+        print_byte(rt, byte)?;
     }
     Ok(())
 }
@@ -498,12 +481,10 @@ fn ring_tail(leg: usize) -> u32
 // The legs of the ring, each to the next place, all of the same minutes.
 fn ring_legs(minutes: u32) -> [u32; RING_NUMBERS] {
     let mut legs = [minutes; RING_NUMBERS];
-    let mut leg: usize = 0;
-    while leg < RING_LEGS {
+    for leg in 0..RING_LEGS {
         let tail = ring_tail(leg);
         legs[3 * leg] = tail;
         legs[3 * leg + 1] = (tail + 1) % 64;
-        leg += 1;
     }
     legs
 }
@@ -511,11 +492,7 @@ fn ring_legs(minutes: u32) -> [u32; RING_NUMBERS] {
 // Its marks: the eight legs are must.
 fn ring_marks() -> [u8; RING_ITEMS] {
     let mut marks = [0u8; RING_ITEMS];
-    let mut item = RING_ITEMS - 8;
-    while item < RING_ITEMS {
-        marks[item] = 1;
-        item += 1;
-    }
+    marks[RING_ITEMS - 8..].fill(1);
     marks
 }
 
@@ -532,8 +509,13 @@ fn show_ring(rt: &impl Print, name: &[u8], limit: u32, minutes: u32) -> io::Resu
     let marks = ring_marks();
     let services = [0u32; NODES];
     let mut sheet = [0u8; RING_BYTES];
-    let written = sheet_writer::write_sheet(header, &legs, &marks, &services, &mut sheet);
-    let length = written.length;
+    let draft = Draft {
+        header,
+        arcs: &legs,
+        marks: &marks,
+        services: &services,
+    };
+    let length = sheet_writer::write_sheet(&draft, &mut sheet).unwrap_or(0);
     if length <= RING_BYTES {
         show_pass(rt, name, &sheet[..length])?;
     }
@@ -597,16 +579,19 @@ fn empty_views(rt: &impl Print) -> io::Result<()> {
 }
 
 // Prints what a call of the writer gives and leaves, and the line's end.
-fn show_written(rt: &impl Print, sheet: &[u8], answer: Answer) -> io::Result<()> {
-    if answer.number == 0 {
-        print_bytes(rt, sheet, answer.length)?;
-        if is_kept(sheet, answer.length) {
-            rt.write_all(b"; rest untouched")?;
+fn show_written(rt: &impl Print, sheet: &[u8], answer: Result<usize, Refusal>) -> io::Result<()> {
+    match answer {
+        Ok(length) => {
+            print_bytes(rt, sheet, length)?;
+            if is_kept(sheet, length) {
+                rt.write_all(b"; rest untouched")?;
+            }
         }
-    } else {
-        show_refusal(rt, answer.number)?;
-        if is_kept(sheet, 0) {
-            rt.write_all(b"; all untouched")?;
+        Err(why) => {
+            show_refusal(rt, u32::from(why))?;
+            if is_kept(sheet, 0) {
+                rt.write_all(b"; all untouched")?;
+            }
         }
     }
     rt.write_all(b"\n")
@@ -627,7 +612,13 @@ fn show_write(
     rt.write_all(name)?;
     rt.write_all(b":")?;
     let mut sheet = [FILLED_BYTE; SHEET_LENT];
-    let answer = sheet_writer::write_sheet(header, legs, marks, services, &mut sheet[..size]);
+    let draft = Draft {
+        header,
+        arcs: legs,
+        marks,
+        services,
+    };
+    let answer = sheet_writer::write_sheet(&draft, &mut sheet[..size]);
     show_written(rt, &sheet, answer)
 }
 
@@ -645,11 +636,8 @@ fn minutes_of(weight: u32, head: u32, services: &[u32]) -> u32 {
 
 // Makes the weights of legs minutes again; three numbers stand for each leg.
 fn give_back(legs: &mut [u32], services: &[u32]) {
-    let mut at: usize = 0;
-    while at + 2 < legs.len() {
-        let minutes = minutes_of(legs[at + 2], legs[at + 1], services);
-        legs[at + 2] = minutes;
-        at += 3;
+    for leg in legs.chunks_exact_mut(3) {
+        leg[2] = minutes_of(leg[2], leg[1], services);
     }
 }
 
@@ -661,8 +649,8 @@ fn show_again(rt: &impl Print, name: &[u8], sheet: &[u8]) -> io::Result<()>
     let mut marks = [0u8; ITEMS];
     let mut services = [0u32; NODES];
     let header = match sheet_reader::read_page(sheet, &mut legs, &mut marks, &mut services) {
-        SheetRead::Got(header) => header,
-        SheetRead::Refused(_) => return Ok(()),
+        Ok(header) => header,
+        Err(_) => return Ok(()),
     };
     let numbers = 3 * header.arcs;
     let items = header.nodes + header.arcs;
@@ -860,32 +848,21 @@ fn written_services(rt: &impl Print) -> io::Result<()> {
     show_services(rt, b"Service of 601", &long, 34)
 }
 
-// Prints what the reader gives for the number at the front of the bytes.
-fn show_read(rt: &impl Print, number: Number) -> io::Result<()> {
-    match number {
-        Number::Got(value, end) => {
-            print!(rt; "{value}")?;
-            rt.write_all(b", ")?;
-            print!(rt; "{end}")?;
-            rt.write_all(b" bytes")?;
-        }
-        Number::Ends => {
-            rt.write_all(b"refused 3")?;
-        }
-        Number::Overlong => {
-            rt.write_all(b"refused 4")?;
-        }
-    }
-    Ok(())
-}
-
 // Prints a line: the bytes, and the value of the number at their front with the count of bytes that it took, or the refusal.
 fn show_number(rt: &impl Print, bytes: &[u8]) -> io::Result<()> {
     rt.write_all(b"Number")?;
     print_bytes(rt, bytes, bytes.len())?;
-    rt.write_all(b": ")?;
-    show_read(rt, varint::number_at(bytes, 0))?;
-    rt.write_all(b"\n")
+    let mut cursor = Bytes { rest: bytes };
+    match cursor.take_number() {
+        Ok(value) => {
+            let taken = bytes.len().saturating_sub(cursor.rest.len());
+            print!(rt; ": {value}, {taken} bytes\n")
+        }
+        Err(why) => {
+            let number = u32::from(why);
+            print!(rt; ": refused {number}\n")
+        }
+    }
 }
 
 // Numbers that end: more bytes behind them alter nothing.
@@ -914,107 +891,54 @@ fn unended_numbers(rt: &impl Print) -> io::Result<()> {
     show_number(rt, b"\x80\x80\x80\xFF\x00\x7F")
 }
 
-// Whether two slots agree in every number, those past their lists included.
-fn is_same_slot(one: Slot, other: Slot) -> bool {
-    let a = one.items;
-    let b = other.items;
-    if !lists::same_numbers(&a, &b) {
-        return false;
-    }
-    if one.first != other.first || one.limit != other.limit {
-        return false;
-    }
-    one.goals == other.goals && one.reasons == other.reasons
+// Whether two stores agree in every number, those past their counts included.
+fn is_same_store(one: &Store, other: &Store) -> bool {
+    one.count == other.count
+        && one.nodes == other.nodes
+        && one.arcs == other.arcs
+        && one.source == other.source
+        && one.target == other.target
+        && one.legs == other.legs
+        && one.services == other.services
+        && one.slots == other.slots
 }
 
-// Whether two stores agree in all their slots, those past the count included.
-fn are_same_slots(one: Store, other: Store) -> bool {
-    let mut i: usize = 0;
-    while i < SLOTS {
-        let a = one.slots[i];
-        let b = other.slots[i];
-        if !is_same_slot(a, b) {
-            return false;
-        }
-        i += 1;
-    }
-    true
-}
-
-// Whether two stores agree in every number.
-fn is_same_store(one: Store, other: Store) -> bool {
-    let a = one.legs;
-    let b = other.legs;
-    if !lists::same_numbers(&a, &b) {
-        return false;
-    }
-    let services = one.services;
-    let others = other.services;
-    if !lists::same_numbers(&services, &others) {
-        return false;
-    }
-    if one.nodes != other.nodes || one.arcs != other.arcs || one.source != other.source {
-        return false;
-    }
-    if one.target != other.target || one.count != other.count {
-        return false;
-    }
-    are_same_slots(one, other)
-}
-
-// Prints the items from `from` up to `to`.
-fn print_items(
-    rt: &impl Print,
-    items: [usize; SLOT_ITEMS],
-    from: usize,
-    to: usize,
-) -> io::Result<()> {
-    let mut i = from;
-    while i < to {
-        if i < SLOT_ITEMS {
-            print_hex(rt, items[i] as u64)?;
-        }
-        i += 1;
+// Prints the items.
+fn print_items(rt: &impl Print, items: &[u32]) -> io::Result<()> {
+    for &item in items {
+        print_hex(rt, item as u64)?;
     }
     Ok(())
 }
 
 // Prints the slip that a slot holds, its numbers in a slip's order, and the limit.
-fn show_slot(rt: &impl Print, slot: Slot) -> io::Result<()> {
-    let all = store_slot::lists_of(slot);
-    let goals = all.goals_end;
-    let end = all.reasons_end;
-    let items = all.items;
+fn show_slot(rt: &impl Print, slot: &Slot) -> io::Result<()> {
     print_hex(rt, slot.first as u64)?;
     print_hex(rt, slot.goals as u64)?;
-    print_items(rt, items, 0, goals)?;
+    print_items(rt, slot.goals())?;
     print_hex(rt, slot.reasons as u64)?;
-    print_items(rt, items, goals, end)?;
+    print_items(rt, slot.reasons())?;
     rt.write_all(b" with K ")?;
     print!(rt; "{}", slot.limit)
 }
 
 // Prints the slips that a store holds, earliest put first.
-fn show_held(rt: &impl Print, store: Store) -> io::Result<()> {
+fn show_held(rt: &impl Print, store: &Store) -> io::Result<()> {
     rt.write_all(b"; holds")?;
     if store.count == 0 {
         rt.write_all(b" nothing")?;
     }
-    let count = store_slot::at_most(store.count, SLOTS);
-    let mut i: usize = 0;
-    while i < count {
+    for (i, slot) in store.slips().iter().enumerate() {
         if i > 0 {
             rt.write_all(b", then")?;
         }
-        let slot = store.slots[i];
         show_slot(rt, slot)?;
-        i += 1;
     }
     Ok(())
 }
 
 // Prints a line's start: the lines that follow one another on the same slips are set in.
-fn show_start(rt: &impl Print, store: Store) -> io::Result<()> {
+fn show_start(rt: &impl Print, store: &Store) -> io::Result<()> {
     if store.count == 0 {
         rt.write_all(b"Empty store, ")?;
     } else {
@@ -1024,15 +948,13 @@ fn show_start(rt: &impl Print, store: Store) -> io::Result<()> {
 }
 
 // Prints what put gives, what the store then holds, and whether it is in every number as it was before.
-fn show_putting(rt: &impl Print, before: Store, answer: Putting) -> io::Result<()> {
-    let after = answer.store;
-    if answer.number == 0 {
-        rt.write_all(b" 0")?;
-    } else {
-        show_refusal(rt, answer.number)?;
+fn show_putting(rt: &impl Print, before: &Store, answer: &Putting) -> io::Result<()> {
+    match answer.outcome {
+        Ok(()) => rt.write_all(b" 0")?,
+        Err(why) => show_refusal(rt, u32::from(why))?,
     }
-    show_held(rt, after)?;
-    if is_same_store(before, after) {
+    show_held(rt, &answer.store)?;
+    if is_same_store(before, &answer.store) {
         rt.write_all(b"; store unchanged")?;
     }
     Ok(())
@@ -1046,33 +968,29 @@ fn show_put(
     sheet: &[u8],
     slip: &[u8],
 ) -> io::Result<Store> {
-    show_start(rt, store)?;
+    show_start(rt, &store)?;
     rt.write_all(b"put ")?;
     rt.write_all(name)?;
     rt.write_all(b",")?;
     print_bytes(rt, slip, slip.len())?;
     rt.write_all(b":")?;
     let mut work = [FILLED_NUMBER; WORK_LENT];
-    let answer = store::put(store, sheet, &mut work, slip);
-    show_putting(rt, store, answer)?;
+    let answer = store.put(sheet, &mut work, slip);
+    show_putting(rt, &store, &answer)?;
     show_work_left(rt, &work)?;
     Ok(answer.store)
 }
 
 // Prints a line: the sheet's name, and the slip that ask finds.
-fn show_ask(rt: &impl Print, store: Store, name: &[u8], sheet: &[u8]) -> io::Result<()> {
+fn show_ask(rt: &impl Print, store: &Store, name: &[u8], sheet: &[u8]) -> io::Result<()> {
     show_start(rt, store)?;
     rt.write_all(b"ask ")?;
     rt.write_all(name)?;
     rt.write_all(b":")?;
-    let answer = store::ask(store, sheet);
-    if answer.number != 0 {
-        show_refusal(rt, answer.number)?;
-    } else if answer.found {
-        let slot = answer.slot;
-        show_slot(rt, slot)?;
-    } else {
-        rt.write_all(b" none")?;
+    match store.ask(sheet) {
+        Ok(Some(slot)) => show_slot(rt, &slot)?,
+        Ok(None) => rt.write_all(b" none")?,
+        Err(why) => show_refusal(rt, u32::from(why))?,
     }
     rt.write_all(b"\n")
 }
@@ -1082,7 +1000,13 @@ fn sheet_of_b(limit: u32, marks: &[u8; 9]) -> [u8; 29] {
     let legs = legs_of_b();
     let services = [0u32; 4];
     let mut sheet = [0u8; 29];
-    sheet_writer::write_sheet(header_of_b(limit), &legs, marks, &services, &mut sheet);
+    let draft = Draft {
+        header: header_of_b(limit),
+        arcs: &legs,
+        marks,
+        services: &services,
+    };
+    let _written = sheet_writer::write_sheet(&draft, &mut sheet);
     sheet
 }
 
@@ -1112,7 +1036,7 @@ fn put_two(rt: &impl Print, store: Store, slip: &[u8]) -> io::Result<Store> {
 // Asks with B, another limit and other marks.
 fn ask_b(
     rt: &impl Print,
-    store: Store,
+    store: &Store,
     name: &[u8],
     limit: u32,
     marks: &[u8; 9],
@@ -1123,29 +1047,29 @@ fn ask_b(
 
 // A store that holds nothing still reads the sheet that it is asked for.
 fn ask_empty(rt: &impl Print) -> io::Result<()> {
-    let store = store::empty();
-    show_ask(rt, store, b"an empty sheet", b"")?;
-    ask_b(rt, store, b"B", 8, b"\x00\x00\x00\x00\x00\x00\x00\x00\x00")
+    let store = Store::empty();
+    show_ask(rt, &store, b"an empty sheet", b"")?;
+    ask_b(rt, &store, b"B", 8, b"\x00\x00\x00\x00\x00\x00\x00\x00\x00")
 }
 
 // A slip answers for its own sheet, for a lower limit and where more is shut; not where its reason is open or must, nor for a greater limit.
 fn ask_one(rt: &impl Print) -> io::Result<()> {
-    let store = put_one_shut(rt, store::empty(), b"\x01\x00\x01\x01")?;
+    let store = put_one_shut(rt, Store::empty(), b"\x01\x00\x01\x01")?;
     let shut = b"\x00\x02\x00\x00\x00\x00\x00\x00\x00";
     let more = b"\x00\x02\x00\x00\x02\x00\x00\x00\x00";
     let open = b"\x00\x00\x00\x00\x00\x00\x00\x00\x00";
     let must = b"\x00\x01\x00\x00\x00\x00\x00\x00\x00";
-    ask_b(rt, store, b"K 8, item 1 shut", 8, shut)?;
-    ask_b(rt, store, b"K 7, item 1 shut", 7, shut)?;
-    ask_b(rt, store, b"K 8, items 1 and 4 shut", 8, more)?;
-    ask_b(rt, store, b"B", 8, open)?;
-    ask_b(rt, store, b"K 9, item 1 shut", 9, shut)?;
-    ask_b(rt, store, b"K 8, item 1 must", 8, must)
+    ask_b(rt, &store, b"K 8, item 1 shut", 8, shut)?;
+    ask_b(rt, &store, b"K 7, item 1 shut", 7, shut)?;
+    ask_b(rt, &store, b"K 8, items 1 and 4 shut", 8, more)?;
+    ask_b(rt, &store, b"B", 8, open)?;
+    ask_b(rt, &store, b"K 9, item 1 shut", 9, shut)?;
+    ask_b(rt, &store, b"K 8, item 1 must", 8, must)
 }
 
 // A slip that the newcomer subsumes goes; a newcomer that a slip subsumes is not put.
 fn put_subsumed(rt: &impl Print) -> io::Result<()> {
-    let wide = put_two_shut(rt, store::empty(), b"\x01\x00\x02\x01\x05")?;
+    let wide = put_two_shut(rt, Store::empty(), b"\x01\x00\x02\x01\x05")?;
     let narrow = put_two_shut(rt, wide, b"\x01\x00\x01\x05")?;
     put_two_shut(rt, narrow, b"\x01\x00\x02\x01\x05")?;
     Ok(())
@@ -1153,31 +1077,31 @@ fn put_subsumed(rt: &impl Print) -> io::Result<()> {
 
 // The slip that was put earliest is found, by the order of puts and not of rooms, although the pass writes the other.
 fn ask_earliest(rt: &impl Print) -> io::Result<()> {
-    let one = put_two_shut(rt, store::empty(), b"\x01\x00\x02\x01\x05")?;
+    let one = put_two_shut(rt, Store::empty(), b"\x01\x00\x02\x01\x05")?;
     let must = sheet_of_b(14, b"\x00\x01\x01\x00\x00\x00\x00\x00\x02");
     let name = b"K 14, places 1 and 2 must, item 8 shut";
     let two = show_put(rt, one, name, &must, b"\x03\x02\x01\x02\x01\x08")?;
     let three = put_two_shut(rt, two, b"\x01\x00\x01\x05")?;
     let later = sheet_of_b(8, b"\x00\x01\x01\x00\x00\x02\x00\x00\x02");
     let later_name = b"K 8, places 1 and 2 must, items 5 and 8 shut";
-    show_ask(rt, three, later_name, &later)?;
+    show_ask(rt, &three, later_name, &later)?;
     show_pass(rt, b"  pass of the same sheet", &later)
 }
 
 // Slips that are refused: check says no, a reason for an item, another map.
 fn put_refused(rt: &impl Print) -> io::Result<()> {
-    let first = put_one_shut(rt, store::empty(), b"\x01\x00\x00")?;
+    let first = put_one_shut(rt, Store::empty(), b"\x01\x00\x00")?;
     let b = sheet_of_b(8, b"\x00\x00\x00\x00\x00\x00\x00\x00\x00");
     let second = show_put(rt, first, b"B", &b, b"\x04\x01\x02\x00")?;
     let store = put_one_shut(rt, second, b"\x01\x00\x01\x01")?;
     put_two(rt, store, b"\x02\x01\x02\x00")?;
     let other = sheet_of_two();
-    show_ask(rt, store, b"K 0, two places, item 2 must", &other)
+    show_ask(rt, &store, b"K 0, two places, item 2 must", &other)
 }
 
 // A 2 and a 3 with the same lists and limit subsume each other: the one put first stays.
 fn put_alike(rt: &impl Print) -> io::Result<()> {
-    let store = put_two(rt, store::empty(), b"\x02\x01\x02\x00")?;
+    let store = put_two(rt, Store::empty(), b"\x02\x01\x02\x00")?;
     put_two(rt, store, b"\x03\x01\x02\x00")?;
     Ok(())
 }
@@ -1186,26 +1110,26 @@ fn put_alike(rt: &impl Print) -> io::Result<()> {
 fn ask_served(rt: &impl Print) -> io::Result<()> {
     let store = show_put(
         rt,
-        store::empty(),
+        Store::empty(),
         b"B with service 2 at place 1",
         b"\x01\x04\x05\x00\x03\x08\x00\x01\x04\x01\x03\x04\x00\x02\x03\x02\x03\x09\x01\x02\x01\x00\x00\x00\x00\x00\x00\x00\x00\x00\x00\x02\x00\x00",
         b"\x01\x00\x00",
     )?;
     show_ask(
         rt,
-        store,
+        &store,
         b"K 7, service 2 at place 1",
         b"\x01\x04\x05\x00\x03\x07\x00\x01\x04\x01\x03\x04\x00\x02\x03\x02\x03\x09\x01\x02\x01\x00\x00\x00\x00\x00\x00\x00\x00\x00\x00\x02\x00\x00",
     )?;
     show_ask(
         rt,
-        store,
+        &store,
         b"K 8, service 1 at place 1, leg 0 of 5 minutes",
         b"\x01\x04\x05\x00\x03\x08\x00\x01\x05\x01\x03\x04\x00\x02\x03\x02\x03\x09\x01\x02\x01\x00\x00\x00\x00\x00\x00\x00\x00\x00\x00\x01\x00\x00",
     )?;
     show_ask(
         rt,
-        store,
+        &store,
         b"K 8, no services, leg 0 of 6 minutes",
         b"\x04\x05\x00\x03\x08\x00\x01\x06\x01\x03\x04\x00\x02\x03\x02\x03\x09\x01\x02\x01\x00\x00\x00\x00\x00\x00\x00\x00\x00",
     )

@@ -79,13 +79,13 @@ module _ {N : Net} {cap a : ℕ} {goals : List ℕ} {S : ℕ} {work : List ℕ} 
   alone_begun o = rw (but_none goals S i few e o) (F.rowed.first (get_or work (576 + i) 0) (F.inside i below))
 
   -- other goals in the set: reach, asked for the set without goal i, has it
-  pub others_reached : (b x : ℕ) → b ≡ 2 ^ i
-      → ((N : Net) (a : ℕ) (goals : List ℕ) → SetAsked N cap a goals (S - b) (get_or work (576 + i) 0) work
-      → x ≡ held cap (least (graph N) (closed N) (chosen goals (S - b)) a (get_or work (576 + i) 0))) → x ≡ held cap to_entry
-  others_reached b x q reach =
+  pub others_reached : (rest x : ℕ) → rest ≡ S - 2 ^ i
+      → ((N : Net) (a : ℕ) (goals : List ℕ) → SetAsked N cap a goals rest (get_or work (576 + i) 0) work
+      → x ≡ held cap (least (graph N) (closed N) (chosen goals rest) a (get_or work (576 + i) 0))) → x ≡ held cap to_entry
+  others_reached rest x q reach =
       let l = but_less S i e in
       subst
-      (λ (b : ℕ). SetAsked N cap a goals (S - b) (get_or work (576 + i) 0) work → x ≡ held cap (least (graph N) (closed N) (chosen goals (S - b)) a (get_or work (576 + i) 0)))
+      (λ (rest : ℕ). SetAsked N cap a goals rest (get_or work (576 + i) 0) work → x ≡ held cap (least (graph N) (closed N) (chosen goals rest) a (get_or work (576 + i) 0)))
       q (reach N a goals) (asked_of F (S - 2 ^ i) (get_or work (576 + i) 0) l (omega arith) (F.inside i below))
 
   -- and just past the goal itself

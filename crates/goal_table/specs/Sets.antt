@@ -1,5 +1,5 @@
 -- Sets of goals as numbers: bit i says whether goal i is in the set.
-use Rattle.std.specs.Prelude.{ℕ, zero, suc, ◌-◌, ◌/◌, ◌%◌, ◌^◌, Bool, true, false, List, [], ◌∷◌, get_or, eqb}
+use Rattle.std.specs.Prelude.{ℕ, zero, suc, ◌-◌, ◌/◌, ◌%◌, ◌^◌, ◌<◌, ◌≡◌, ◌≢◌, Bool, true, false, List, [], ◌∷◌, get_or, eqb}
 use Rattle.lists.specs.Lists.{add}
 use Rattle.walks.specs.Goals.{entry_of, own_of, lastly}
 use Rattle.walks.specs.Graph.{Graph, least}
@@ -11,6 +11,14 @@ odd set = eqb (set % 2) 1
 unfoldable pub has : ℕ → ℕ → Bool
 has set zero = odd set
 has set (suc i) = has (set / 2) i
+
+-- i is the set's first goal, and without it the rest is left
+pub record FirstOff (set i rest : ℕ) : Type 0 where
+  pub in_set : has set i ≡ true
+  pub before : (j : ℕ) → j < i → has set j ≡ false
+  pub off : has rest i ≡ false
+  pub others : (j : ℕ) → j ≢ i → has rest j ≡ has set j
+  pub less : rest < set
 
 -- the goals of a set
 unfoldable pub chosen : List ℕ → ℕ → List ℕ

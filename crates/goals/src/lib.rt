@@ -1,58 +1,51 @@
 // Goals: where one is entered and left, its own length, and sums up to the cap.
 #![tactic(auto)]
 
-ghost use Rattle.std.specs.Prelude.{◌≡◌, ◌+◌, ◌*◌, ◌≤◌, ◌<◌};
+ghost use Rattle.std.specs.Prelude.{◌≡◌, ◌+◌, ◌<◌};
 ghost use Rattle.walks.specs.Lengths.{Least, plus};
-ghost use Rattle.walks.specs.Graph.{closed_in};
 ghost use Rattle.walks.specs.Goals.{entry_of, exit_of, own_of};
-ghost use Rattle.walks.specs.Flat.{graph_of};
 ghost use Rattle.rows.specs.Held.{missing, held};
-ghost use Rattle.rows.specs.Net.{net_of, arc_count, Proper, Joins};
+ghost use Rattle.rows.specs.Net.{graph, closed, count};
 
 use rows::MISSING;
-use walks::FORBIDDEN;
-
-// What the three numbers of an arc are.
-const TAIL: usize = 0;
-
-const HEAD: usize = 1;
-
-const WEIGHT: usize = 2;
+use rows::net::Net;
 
 // The node where a walk comes to the goal.
-pub fn entry(nodes: usize, arcs: &[u32], goal: usize) -> u32
-    requires { Joins nodes arcs.now × (nodes ≤ 64) × (goal < nodes + arc_count arcs.now) }
-    ensures { (result ≡ entry_of (graph_of nodes arcs.now) goal) × (result < nodes) }
+#[tactic(auto, using(walks::proofs::GoalLaws::entry_node, rows::proofs::ArcLaws::entry_at))]
+pub fn entry(net: &Net, goal: usize) -> usize
+    requires { goal < net.now.nodes + count net.now }
+    ensures { (result ≡ entry_of (graph net.now) goal) × (result < net.now.nodes) × (result < 64) }
 {
-    if goal < nodes {
-        return goal as u32;
+    if goal < net.nodes {
+        return goal;
     }
-    arcs[(goal - nodes) * 3 + TAIL]
+    net.tail(goal - net.nodes)
 }
 
 // The node where a walk leaves the goal.
-pub fn exit(nodes: usize, arcs: &[u32], goal: usize) -> usize
-    requires { Joins nodes arcs.now × (goal < nodes + arc_count arcs.now) }
-    ensures { (result ≡ exit_of (graph_of nodes arcs.now) goal) × (result < nodes) }
+#[tactic(auto, using(walks::proofs::GoalLaws::exit_node, rows::proofs::ArcLaws::exit_at))]
+pub fn exit(net: &Net, goal: usize) -> usize
+    requires { goal < net.now.nodes + count net.now }
+    ensures { (result ≡ exit_of (graph net.now) goal) × (result < net.now.nodes) × (result < 64) }
 {
-    if goal < nodes {
+    if goal < net.nodes {
         return goal;
     }
-    arcs[(goal - nodes) * 3 + HEAD] as usize
+    net.head(goal - net.nodes)
 }
 
 // The length of the goal itself.
-pub fn own(nodes: usize, arcs: &[u32], marks: &[u8], goal: usize, cap: u32) -> u32
-    requires { Proper (net_of nodes arcs.now marks.now) × (goal < nodes + arc_count arcs.now) }
-    ensures { result ≡ held cap (own_of (graph_of nodes arcs.now) (closed_in marks.now) goal) }
+pub fn own(net: &Net, goal: usize, cap: u32) -> u32
+    requires { goal < net.now.nodes + count net.now }
+    ensures { result ≡ held cap (own_of (graph net.now) (closed net.now) goal) }
 {
-    if goal < nodes {
+    if goal < net.nodes {
         return 0;
     }
-    if marks[goal] == FORBIDDEN {
+    if net.is_closed(goal) {
         return MISSING;
     }
-    let weight = arcs[(goal - nodes) * 3 + WEIGHT];
+    let weight = net.weight(goal - net.nodes);
     if weight > cap {
         return MISSING;
     }

@@ -1,10 +1,10 @@
 -- A turn carries the list on by one item. Assumes nothing.
 use Prim.Native.Nat.{ℕ, ◌+◌, ◌≤◌, ◌<◌}
 use mathlib.Core.Path.{◌≡◌, refl, sym, ap, ◌∙◌, fun_ext}
-use mathlib.Core.Bool.{Bool, true, false}
+use mathlib.Core.Bool.{Bool, true, false, true≢false}
 use mathlib.Core.List.{List, []}
 use native.Mathlib.Omega.{arith}
-use lib.ListN.{length, get_or}
+use lib.ListN.{length, get_or, set}
 use lib.Dec.{eqb}
 use Rattle.walks.specs.Flat.{graph_of}
 use Rattle.walks.specs.Goals.{exit_of}
@@ -16,7 +16,6 @@ use Rattle.walks.proofs.FlatLaws.{arcs_count}
 use Rattle.reason_list.specs.Reasons.{reasons}
 use Rattle.reason_list.proofs.ReasonLaws.{reasons_alike}
 use Rattle.greedy_turn.specs.Turns.{Task, map, source, task_items, Setting, State, Turned}
-use Rattle.greedy.specs.Listing.{PutDown}
 use Rattle.lists.specs.Lists.{Put}
 use Rattle.greedy.proofs.ListingLaws.{Listing, begun, passed_on, left_open, put_down, ended}
 
@@ -39,37 +38,36 @@ going_begun {T} {marks} list S A = record {
 
 module _ {T : Task} {marks₀ list₀ : List ℕ} {i : ℕ} {marks list : List ℕ} {m : ℕ} {packed : List ℕ} {c : ℕ} {work : List ℕ}
     (W : Going T marks₀ list₀ i marks list m packed c work) where
-  pub going_more : {marks' list' : List ℕ} {m' : ℕ} {packed' : List ℕ} {c' : ℕ} {work' : List ℕ} {listed : Bool} → i < task_items T → task_items T ≤ length list₀
-      → Turned T marks i marks' listed → State T marks' packed' c' work' → PutDown list m i listed list' m'
-      → Going T marks₀ list₀ (i + 1) marks' list' m' packed' c' work'
-  going_more {marks'} {list'} {m'} {listed = listed} h room R A P = record { setting = W.setting; state = A; listing = go (closed_in marks i) refl listed refl }
-    where
-      below : i < item_count (map T)
-      below = omega (arith, items_are T.nodes T.arcs)
+  below : i < task_items T → i < item_count (map T)
+  below h = omega (arith, items_are T.nodes T.arcs)
 
-      go : (b : Bool) → closed_in marks i ≡ b → (l : Bool) → listed ≡ l → Listing (map T) (source T) T.to T.cap T.goals marks₀ list₀ (i + 1) marks' list' m'
-      go false p l q =
-          let t = R.passed p in
-          let d = P.away t.0 in
-          rw (t.1, d.0, d.1) (passed_on (map T) (source T) T.to T.cap T.goals marks₀ list₀ below W.listing p)
-      go true p false q =
+  -- the item is not listed, for it is open or stays so
+  pub going_passed : {marks' : List ℕ} {packed' : List ℕ} {c' : ℕ} {work' : List ℕ} → i < task_items T → Turned T marks i marks' false
+      → State T marks' packed' c' work' → Going T marks₀ list₀ (i + 1) marks' list m packed' c' work'
+  going_passed {marks'} h R A = record { setting = W.setting; state = A; listing = go (closed_in marks i) refl }
+    where
+      go : (b : Bool) → closed_in marks i ≡ b → Listing (map T) (source T) T.to T.cap T.goals marks₀ list₀ (i + 1) marks' list m
+      go false p = rw (R.passed p).1 (passed_on (map T) (source T) T.to T.cap T.goals marks₀ list₀ (below h) W.listing p)
+      go true p = let t = R.tried p in rw t.1 (left_open (map T) (source T) T.to T.cap T.goals marks₀ list₀ (below h) W.listing p t.0)
+
+  -- the item is listed
+  pub going_listed : {marks' : List ℕ} {packed' : List ℕ} {c' : ℕ} {work' : List ℕ} → i < task_items T → task_items T ≤ length list₀
+      → Turned T marks i marks' true → State T marks' packed' c' work' → Going T marks₀ list₀ (i + 1) marks' (set list m i) (m + 1) packed' c' work'
+  going_listed {marks'} h room R A = record { setting = W.setting; state = A; listing = go (closed_in marks i) refl }
+    where
+      go : (b : Bool) → closed_in marks i ≡ b → Listing (map T) (source T) T.to T.cap T.goals marks₀ list₀ (i + 1) marks' (set list m i) (m + 1)
+      go false p = absurd (true≢false (R.passed p).0)
+      go true p =
           let t = R.tried p in
-          let d = P.away q in
-          rw (t.1, d.0, d.1, q) (left_open (map T) (source T) T.to T.cap T.goals marks₀ list₀ below W.listing p (t.0 ∙ q))
-      go true p true q =
-          let t = R.tried p in
-          let d = P.there q in
-          rw (t.1, d.0, d.1, q)
-          (put_down (map T) (source T) T.to T.cap T.goals marks₀ list₀ below W.listing p (t.0 ∙ q) (omega (arith, items_are T.nodes T.arcs)))
+          rw t.1 (put_down (map T) (source T) T.to T.cap T.goals marks₀ list₀ (below h) W.listing p t.0 (omega (arith, items_are T.nodes T.arcs)))
 
   pub going_room : task_items T ≤ length list₀ → i < task_items T → length list ≡ length list₀ → m < length list
   going_room h k l = omega (arith, W.listing.few)
 
-  pub going_done : {from : ℕ} {goals : List ℕ} → source T ≡ from → T.goals ≡ goals → i ≡ task_items T
-      → Put (reasons (map T) from T.to T.cap goals marks₀) list₀ list m
-  going_done e g q =
+  pub going_done : i ≡ task_items T → Put (reasons (map T) (source T) T.to T.cap T.goals marks₀) list₀ list m
+  going_done q =
       let w = ended (map T) (source T) T.to T.cap T.goals marks₀ list₀ (q ∙ sym (items_are T.nodes T.arcs)) W.listing in
-      rw (← e, ← g) (w.1, w.0)
+      (w.1, w.0)
 
 -- the marks in an array of their own close the same items
 module _ (marks r : List ℕ) (e : (j : ℕ) → get_or r j 0 ≡ get_or marks j 0) where

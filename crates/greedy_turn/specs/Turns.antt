@@ -1,5 +1,5 @@
 -- What holds while the items are gone through.
-use Rattle.std.specs.Prelude.{ℕ, ◌+◌, ◌-◌, ◌≤◌, ◌<◌, ◌≡◌, Bool, true, false, not, List, length, get_or, set, take, drop}
+use Rattle.std.specs.Prelude.{ℕ, ◌+◌, ◌-◌, ◌≤◌, ◌<◌, ◌≡◌, Bool, true, false, not, List, length, get_or, set, take}
 use Rattle.lists.specs.Lists.{Distinct, pick}
 use Rattle.walks.specs.Flat.{graph_of}
 use Rattle.walks.specs.Graph.{Graph, closed_in, fits}
@@ -9,6 +9,7 @@ use Rattle.rows.specs.Rows.{RowsAre, scratch_numbers}
 use Rattle.row_save.specs.Unmoved.{Entered}
 use Rattle.row_links.specs.Links.{Linked}
 use Rattle.goal_table.specs.Table.{StartsAre, Rowed, Noted}
+use Rattle.greedy_turn.specs.declared.Task as code
 
 -- What stays: the nodes and arcs, the target, the limit, the goals, and the starts of the rows, the first of which is the source.
 pub record Task : Type 0 where
@@ -19,15 +20,15 @@ pub record Task : Type 0 where
   pub goals : List ℕ
   pub starts : List ℕ
 
--- the places are where so many rows start, and behind them the goals
-abbrev pub task_of : ℕ → List ℕ → ℕ → ℕ → ℕ → List ℕ → Task
-task_of n xs to cap rows places = record {
-  nodes = n;
-  arcs = xs;
-  to = to;
-  cap = cap;
-  goals = take (length places - rows) (drop rows places);
-  starts = take rows places;
+-- what the code has
+abbrev pub task_is : code.Task → Task
+task_is t = record {
+  nodes = t.nodes;
+  arcs = t.arcs.now;
+  to = t.to;
+  cap = t.cap;
+  goals = t.goals.now;
+  starts = t.starts.now;
 }
 
 abbrev pub map : Task → Graph

@@ -1,16 +1,8 @@
 -- What a sheet asks of the length layer.
-use Rattle.std.specs.Prelude.{ℕ, ◌≤◌, ◌<◌, ◌≡◌, List, length}
+use Rattle.std.specs.Prelude.{ℕ, ◌≤◌, ◌<◌, List, length}
 use Rattle.rows.specs.Net.{net_of, Proper}
 use Rattle.goal_table.specs.Table.{GoalsFit}
-use Rattle.lengths.specs.declared.Query.{Query}
 use Rattle.sheet.specs.declared.Header.{Header}
-
--- a walk from the source to the target within the limit
-pub record QueryOf (h : Header) (query : Query) : Type 0 where
-  pub nodes : query.nodes ≡ h.nodes
-  pub from : query.from ≡ h.source
-  pub to : query.to ≡ h.target
-  pub cap : query.cap ≡ h.limit
 
 -- a graph with source, target and limit, and goals for which a least length can be asked
 pub record Sought (h : Header) (arcs marks goals : List ℕ) : Type 0 where

@@ -1,5 +1,5 @@
-// Whether some walk within a sheet's limit meets an item, by the least lengths from the source and to the target (Propositions 1 and 2 of source document
-// 002), or several goals at once. What a sheet asks of the length layer is said here alone.
+// Whether some walk within a sheet's limit meets an item, by the least lengths from the source and to the target, or several goals at once. What a sheet
+// asks of the length layer is said here alone.
 #![tactic(auto)]
 
 ghost use Rattle.std.specs.Prelude.{◌≡◌, [], ◌∷◌, ◌+◌, ◌≤◌, ◌<◌, length};
@@ -11,10 +11,11 @@ ghost use Rattle.pass_rules.specs.Verdict.{fits_sheet};
 ghost use Rattle.sheet.specs.Sheet.{sheet_of};
 ghost use Rattle.sheet_required.specs.Whole.{Whole};
 ghost use Rattle.item_fits.specs.Rows.{Rows};
-ghost use Rattle.item_fits.specs.Asked.{QueryOf, Sought};
+ghost use Rattle.item_fits.specs.Asked.{Sought};
 
 use lengths::Query;
 use rows::ROW_LENGTH;
+use rows::net::Net;
 use sheet::Header;
 
 // The numbers of the two rows by which a sheet is judged.
@@ -25,12 +26,13 @@ pub fn fill_end_rows(header: Header, arcs: &[u32], marks: &[u8], rows: &mut [u32
     requires { Whole header arcs.now marks.now × (length rows.old ≡ 128) }
     ensures { Rows header arcs.now marks.now rows.new }
 {
-    let nodes = header.nodes;
-    let source = header.source;
-    let target = header.target;
-    let limit = header.limit;
-    row_fill::row_from(nodes, arcs, marks, source, &mut rows[..ROW_LENGTH], limit);
-    row_fill::row_to(nodes, arcs, marks, target, &mut rows[ROW_LENGTH..], limit);
+    let net = Net {
+        nodes: header.nodes,
+        arcs,
+        marks,
+    };
+    row_fill::row_from(&net, header.source, &mut rows[..ROW_LENGTH], header.limit);
+    row_fill::row_to(&net, header.target, &mut rows[ROW_LENGTH..], header.limit);
 }
 
 // Whether some walk within the limit, clear of the forbidden items, meets the item: to its entry, over it, and on from its exit.
@@ -38,25 +40,16 @@ pub fn fits_item(header: Header, arcs: &[u32], marks: &[u8], rows: &[u32], item:
     requires { Rows header arcs.now marks.now rows.now × (item < header.nodes + header.arcs) }
     ensures { result ≡ fits_sheet (sheet_of header arcs.now marks.now) (item ∷ []) }
 {
-    let nodes = header.nodes;
-    let limit = header.limit;
-    let entry = goals::entry(nodes, arcs, item) as usize;
-    let exit = goals::exit(nodes, arcs, item);
-    let own = goals::own(nodes, arcs, marks, item, limit);
-    let past = goals::sum(rows[entry], own, limit);
-    goals::sum(past, rows[ROW_LENGTH + exit], limit) <= limit
-}
-
-// What a sheet asks of a walk: from the source to the target, within the limit.
-pub fn query_of(header: Header) -> Query
-    ensures { QueryOf header result }
-{
-    Query {
+    let net = Net {
         nodes: header.nodes,
-        from: header.source,
-        to: header.target,
-        cap: header.limit,
-    }
+        arcs,
+        marks,
+    };
+    let entry = goals::entry(&net, item);
+    let exit = goals::exit(&net, item);
+    let own = goals::own(&net, item, header.limit);
+    let past = goals::sum(rows[entry], own, header.limit);
+    goals::sum(past, rows[ROW_LENGTH + exit], header.limit) <= header.limit
 }
 
 // Whether some walk within the limit, clear of the items that the marks close, meets all goals. The rows for the goals are left in the scratch.
@@ -74,6 +67,15 @@ pub fn fits_goals(
     ensures rows_filled { let N = net_of header.nodes arcs.now marks.now in
         Rowed N header.limit header.source goals.now scratch.new }
 {
-    let query = query_of(header);
-    lengths::least(query, arcs, marks, goals, scratch) <= header.limit
+    let net = Net {
+        nodes: header.nodes,
+        arcs,
+        marks,
+    };
+    let query = Query {
+        from: header.source,
+        to: header.target,
+        cap: header.limit,
+    };
+    lengths::least(query, &net, goals, scratch).is_some()
 }

@@ -3,12 +3,14 @@ use Prim.Native.Nat.{ℕ, zero, suc, ◌+◌, ◌-◌, ◌≤◌, ◌<◌}
 use mathlib.Core.Path.{◌≡◌, refl, ap, sym, ◌∙◌}
 use mathlib.Core.List.{List, [], ◌∷◌, ◌++◌, append_assoc, append-nil}
 use native.Mathlib.Omega.{arith}
-use lib.ListN.{length, set, length-append}
+use native.Mathlib.Numerals.{add-one}
+use lib.ListN.{length, set, drop, length-append, length-drop, drop_of_length-le}
+use lib.Seq.{drop-cons, drop-append_seam, set-append_seam, append_snoc}
 use Rattle.lists.specs.Lists.{front}
-use Rattle.lists.proofs.FrontLaws.{length_front, push_at}
-use Rattle.varint.proofs.VarintLaws.{several_first}
-use Rattle.varint.specs.Varint.{Read, got, refuse, after, several}
-use Rattle.numbers.specs.Begun.{ahead, begun}
+use Rattle.varint.proofs.ReadLaws.{none_yet}
+use Rattle.varint.proofs.VarintLaws.{several_first, got_both, number_front}
+use Rattle.varint.specs.Varint.{Read, got, refuse, after, several, read_number}
+use Rattle.numbers.specs.Begun.{ahead, begun, over}
 
 -- the values xs, read before others
 abbrev pub before : {A : Type 0} → List A → Read (List A) → Read (List A)
@@ -82,6 +84,22 @@ module _ {A : Type 0} {f : List ℕ → Read A} {m : ℕ} {bs : List ℕ} {j : �
       let b : begun f m bs ≡ w.xs = w.left ∙ rw k (append-nil w.xs) in
       (rw b (sym (w.same ∙ rw k (rw append-nil))), b)
 
+pub go_refused :
+    {A : Type 0} {f : List ℕ → Read A} {m : ℕ} {bs : List ℕ} {j : ℕ} {rest : List ℕ} {e : ℕ} → Going f m bs j rest → j < m → f rest ≡ refuse e
+    → several f m bs ≡ refuse e
+go_refused w l e = sym (go_stops w l (sym e)).0
+
+pub go_got :
+    {A : Type 0} {f : List ℕ → Read A} {m : ℕ} {bs : List ℕ} {j : ℕ} {rest : List ℕ} → Going f m bs j rest → m ≤ j
+    → several f m bs ≡ got (begun f m bs) rest
+go_got w l = sym (go_done w l).0
+
+-- one value more, stored after those in front
+push_over : {A : Type 0} (xs d out : List A) (i : ℕ) (v : A) → out ≡ over xs d → length xs ≡ i → i < length d → set out i v ≡ over (xs ++ (v ∷ [])) d
+push_over xs d out i v e l h =
+    let k : length (xs ++ (v ∷ [])) ≡ suc (length xs) = length-append xs (v ∷ []) ∙ add-one (length xs) in
+    rw (e, ← l, drop-cons d (length xs) v (rw (← l) at h), set-append_seam, k) (sym (append_snoc xs v (drop (suc (length xs)) d)))
+
 -- the same, and `put` says how the values read so far stand over the front of the list `old`
 pub record Filling
     {A : Type 0} (f : List ℕ → Read A) (put : List A → List ℕ) (m : ℕ) (bs old : List ℕ) (j : ℕ) (rest out : List ℕ) : Type 0 where
@@ -108,19 +126,6 @@ module _
     pub done : m ≤ j → (got (begun f m bs) rest ≡ several f m bs) × (out ≡ front (put (begun f m bs)) old)
     done l = let k = go_done w.way l in (k.0, rw k.1 w.holds)
 
--- numbers stored as they are
-abbrev pub plain : List ℕ → List ℕ
-plain xs = xs
-
-module _
-    {m : ℕ} {bs old : List ℕ} {f : List ℕ → Read ℕ} {j : ℕ} {rest out : List ℕ} (w : Filling f plain m bs old j rest out) (room : m ≤ length old)
-  where
-    pub plain_kept : length out ≡ length old
-    plain_kept = ap length w.holds ∙ length_front w.way.xs old (omega (arith, w.way.size, w.way.few))
-
-    pub plain_stored : (v : ℕ) → j < m → set out j v ≡ front (w.way.xs ++ (v ∷ [])) old
-    plain_stored v l = push_at w.way.xs old out j v w.holds w.way.size (omega arith)
-
 -- k values were asked for: so many were read, and these are the ones that `begun` names
 pub several_read :
     {A : Type 0} (f : List ℕ → Read A) (k : ℕ) (bs : List ℕ) (xs : List A) (rest : List ℕ) → got xs rest ≡ several f k bs
@@ -131,3 +136,67 @@ several_read f (suc k) bs xs rest e =
     let s = several_first f k bs xs rest (sym e) in
     let i = several_read f k s.1 s.2 rest (sym s.4) in
     (ap length s.5 ∙ ap suc i.0, begun_more f k (sym s.3) ∙ ap (s.0 ∷◌) i.1 ∙ sym s.5)
+
+-- the values of one kind, read so far, stand over the front of a list of them
+pub record Storing {A : Type 0} (f : List ℕ → Read A) (m : ℕ) (bs : List ℕ) (old : List A) (j : ℕ) (rest : List ℕ) (out : List A) : Type 0 where
+  pub way : Going f m bs j rest
+  pub holds : out ≡ over way.xs old
+
+pub store_start : {A : Type 0} (f : List ℕ → Read A) (m : ℕ) (bs : List ℕ) (old : List A) → Storing f m bs old 0 bs old
+unfolding go_start
+store_start f m bs old = record { way = go_start f m bs; holds = refl }
+
+module _
+    {A : Type 0} {f : List ℕ → Read A} {m : ℕ} {bs : List ℕ} {old : List A} {j : ℕ} {rest : List ℕ} {out : List A} (w : Storing f m bs old j rest out)
+  where
+    pub store_kept : m ≤ length old → length out ≡ length old
+    store_kept room = ap length w.holds ∙ simp (length-append, length-drop) (omega (arith, w.way.size, w.way.few))
+
+    pub store_more : {a : A} {next : List ℕ} → j < m → m ≤ length old → f rest ≡ got a next → Storing f m bs old (j + 1) next (set out j a)
+    unfolding go_more
+    store_more {a} {next} l room e = record { way = go_more w.way l (sym e); holds = push_over w.way.xs old out j a w.holds w.way.size (omega arith) }
+
+    pub store_refused : {e : ℕ} → j < m → f rest ≡ refuse e → several f m bs ≡ refuse e
+    store_refused l e = sym (go_stops w.way l (sym e)).0
+
+    pub store_stops : {e : ℕ} → j < m → f rest ≡ refuse e → out ≡ over (begun f m bs) old
+    store_stops l e = let k = go_stops w.way l (sym e) in rw k.1 w.holds
+
+    pub store_done : m ≤ j → out ≡ over (begun f m bs) old
+    store_done l = let k = go_done w.way l in rw k.1 w.holds
+
+    pub store_got : m ≤ j → m ≡ length old → several f m bs ≡ got out rest
+    store_got l room =
+        let k = go_done w.way l in
+        let z : drop (length w.way.xs) old ≡ [] = drop_of_length-le old (omega (arith, w.way.size)) in
+        rw (← k.0, k.1) (rw (w.holds, z, append-nil))
+
+pub ruleset gone = (go_start, go_more)
+
+none_at_all : (k : ℕ) → begun read_number k [] ≡ []
+unfolding read_number begun
+none_at_all zero = refl
+none_at_all (suc k) = begun_not read_number k (sym (none_yet 3))
+
+-- no number stands behind the bytes
+pub none_behind : (k from : ℕ) (bs : List ℕ) → length bs ≤ from → begun read_number k (drop from bs) ≡ []
+none_behind k from bs h = rw (drop_of_length-le bs h) (none_at_all k)
+
+-- numbers that were read one after the other stand before what is left
+pub numbers_parts : (k : ℕ) (bs xs rest : List ℕ) → several read_number k bs ≡ got xs rest → (p : List ℕ) × (bs ≡ p ++ rest)
+unfolding several
+numbers_parts zero bs xs rest e = ([], (got_both [] xs bs rest e).1)
+numbers_parts (suc k) bs xs rest e =
+    let s = several_first read_number k bs xs rest e in
+    let f = number_front bs s.0 s.1 s.3 in
+    let i = numbers_parts k s.1 s.2 rest s.4 in
+    (f.bytes ++ i.0, f.parts ∙ ap (f.bytes ++◌) i.1 ∙ sym (append_assoc f.bytes i.0 rest))
+
+-- so what is left starts where so many bytes were read
+pub numbers_rest : (k : ℕ) (bs xs rest : List ℕ) → several read_number k bs ≡ got xs rest
+    → (drop (length bs - length rest) bs ≡ rest) × (length rest ≤ length bs)
+numbers_rest k bs xs rest e =
+    let p = numbers_parts k bs xs rest e in
+    let l : length bs ≡ length p.0 + length rest = ap length p.1 ∙ length-append p.0 rest in
+    let z : length bs - length rest ≡ length p.0 = omega arith in
+    (ap (λ (n : ℕ). drop n bs) z ∙ ap (drop (length p.0)) p.1 ∙ drop-append_seam p.0 rest, omega arith)

@@ -1,2 +1,1 @@
 pub mod Begun
-pub mod Answer

@@ -15,9 +15,10 @@ ghost use Rattle.item_fits.specs.Asked.{Sought};
 ghost use Rattle.pass.specs.Blamed.{Blamed};
 
 use item_fits::TWO_ROWS;
+use lengths::Query;
 use rows::SCRATCH_NUMBERS;
+use rows::net::Net;
 use sheet::Header;
-use sheet_reader::SheetRead;
 use walks::{ARC_NUMBERS, FORBIDDEN, GOALS, ITEMS};
 use work::{Answer, WORK_NUMBERS};
 
@@ -60,7 +61,17 @@ pub fn ready_rows(
         return;
     }
     if any_forbidden(marks) {
-        lengths::start_rows(item_fits::query_of(header), arcs, marks, goals, scratch);
+        let net = Net {
+            nodes: header.nodes,
+            arcs,
+            marks,
+        };
+        let query = Query {
+            from: header.source,
+            to: header.target,
+            cap: header.limit,
+        };
+        lengths::start_rows(query, &net, goals, scratch);
     }
 }
 
@@ -80,8 +91,17 @@ pub fn list_for_sheet(
         Put (reasons_for S goals.now) list.old list.new result }
 {
     if any_forbidden(marks) {
-        let query = item_fits::query_of(header);
-        return greedy::list_reasons(query, arcs, marks, goals, scratch, list);
+        let net = Net {
+            nodes: header.nodes,
+            arcs,
+            marks,
+        };
+        let query = Query {
+            from: header.source,
+            to: header.target,
+            cap: header.limit,
+        };
+        return greedy::list_reasons(query, &net, goals, scratch, list);
     }
     0
 }
@@ -138,9 +158,9 @@ pub fn pass_sheet(sheet: &[u8], slip: &mut [u8]) -> Answer
     let mut arcs = [0u32; ARC_NUMBERS];
     let mut marks = [0u8; ITEMS];
     let header = match sheet_reader::read(sheet, &mut arcs, &mut marks) {
-        SheetRead::Got(header) => header,
-        SheetRead::Refused(why) => return Answer {
-            number: why,
+        Ok(header) => header,
+        Err(why) => return Answer {
+            number: u32::from(why),
             length: 0,
         },
     };

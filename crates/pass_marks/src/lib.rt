@@ -17,7 +17,7 @@ fn new_mark(
     arcs: &[u32],
     marks: &[u8],
     rows: &[u32],
-    forced: &[u8],
+    forced: &[bool],
     item: usize,
 ) -> u8
     requires rows_of_sheet { Rows header arcs.now marks.now rows.now × (item < header.nodes + header.arcs) }
@@ -32,7 +32,7 @@ fn new_mark(
         return FORBIDDEN;
     }
     if item < header.nodes {
-        if forced[item] == 1 {
+        if forced[item] {
             return MANDATORY;
         }
     }

@@ -1,7 +1,8 @@
 -- What check gives and leaves over bytes, from what it answers, as for pass and reason. Assumes nothing.
 use Prim.Native.Nat.{ℕ, ◌+◌, ◌*◌, ◌≤◌, ◌<◌}
 use mathlib.Core.Path.{◌≡◌, ap, ◌∙◌}
-use mathlib.Core.Bool.{Bool}
+use mathlib.Core.Bool.{Bool, true, false}
+use Rattle.std.specs.Int.{from_bool}
 use mathlib.Core.List.{List}
 use native.Mathlib.Omega.{arith}
 use lib.ListN.{length}
@@ -15,6 +16,15 @@ use Rattle.work.proofs.LeftLaws.{left_finished, left_refused}
 use Rattle.work.specs.Bytes.{zeroed_bytes, bytes_after}
 use Rattle.work.specs.Left.{left}
 use Rattle.planner.specs.Check.{CheckBytesOutcome, check_bytes_outcome, yes_number, checked_bytes}
+
+-- what yes adds to the one number
+pub yes_is : (b : Bool) {n : ℕ} → n ≡ from_bool b → n ≡ yes_number b
+yes_is true e = e
+yes_is false e = e
+
+pub yes_small : (b : Bool) {n : ℕ} → n ≡ from_bool b → n ≤ 65535
+yes_small true e = omega (arith, e)
+yes_small false e = omega (arith, e)
 
 -- the one number, and the bytes left by the refusal number
 abbrev told : CheckAnswer → List ℕ → CheckBytesOutcome

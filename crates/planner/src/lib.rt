@@ -6,9 +6,10 @@
 // the numbers out would give are the laws `pass_copied`, `reason_copied` and `check_copied`.
 #![tactic(auto)]
 
-ghost use Rattle.std.specs.Prelude.{◌≡◌, ◌≤◌};
+ghost use Rattle.std.specs.Prelude.{◌≡◌, ◌+◌, ◌*◌, ◌≤◌};
+ghost use Rattle.varint.specs.Refusal.{number_in, length_in};
 ghost use Rattle.planner.specs.Layer.{passed_bytes, reasoned_bytes};
-ghost use Rattle.planner.specs.Check.{yes_number, checked_bytes};
+ghost use Rattle.planner.specs.Check.{checked_bytes};
 ghost use Rattle.planner.specs.Write.{written_number};
 ghost use Rattle.sheet.specs.Draft.{draft_of};
 ghost use Rattle.store.specs.Held.{shelf_of, empty_store};
@@ -16,14 +17,20 @@ ghost use Rattle.store_bytes.specs.Bytes.{put_bytes, ask_bytes};
 
 use pass::SLIP_BYTES;
 use sheet::Header;
+use sheet_writer::Draft;
 use store::Store;
+use varint::Refusal;
 use work::WORK_BYTES;
 
-// What yes adds to the one number of a check.
-fn yes_number(yes: bool) -> usize
-    ensures { (result ≡ yes_number yes) × (result ≤ 1) }
+// The one number of a call that gives a length.
+fn one_number(answer: Result<usize, Refusal>) -> u32
+    requires { (number_in answer ≤ 27) × (length_in answer ≤ 65535) }
+    ensures { result ≡ 65536 * number_in answer + length_in answer }
 {
-    if yes { 1 } else { 0 }
+    match answer {
+        Ok(length) => work::one_number(0, length),
+        Err(why) => work::one_number(u32::from(why), 0),
+    }
 }
 
 // Pass with the work lent as bytes: the one number of the call.
@@ -67,7 +74,20 @@ pub fn ways_check(sheet: &[u8], work: &mut [u8], slip: &[u8]) -> u32
     }
     let answer = checker::check_sheet(sheet, slip);
     work::leave_bytes(work, answer.number);
-    work::one_number(answer.number, yes_number(answer.yes))
+    work::one_number(answer.number, usize::from(answer.yes))
+}
+
+// The header of the numbers that C hands over.
+fn header_of(n: u32, m: u32, start: u32, finish: u32, limit: u32) -> Header
+    ensures { result ≡ record { nodes = n; arcs = m; source = start; target = finish; limit = limit } }
+{
+    Header {
+        nodes: n as usize,
+        arcs: m as usize,
+        source: start as usize,
+        target: finish as usize,
+        limit,
+    }
 }
 
 // Writes a sheet: the one number of the call. It has more than six parameters, since C lends no struct here: each number of the header comes by itself.
@@ -86,15 +106,13 @@ pub fn ways_write(
         legs.now marks.now services.now in
         record { number = result; out = sheet.new } ≡ written_number d sheet.old }
 {
-    let header = Header {
-        nodes: n as usize,
-        arcs: m as usize,
-        source: start as usize,
-        target: finish as usize,
-        limit: limit,
+    let draft = Draft {
+        header: header_of(n, m, start, finish, limit),
+        arcs: legs,
+        marks,
+        services,
     };
-    let answer = sheet_writer::write_sheet(header, legs, marks, services, sheet);
-    work::one_number(answer.number, answer.length)
+    one_number(sheet_writer::write_sheet(&draft, sheet))
 }
 
 // Put with the work lent as bytes: the store itself is lent and holds the change afterwards.
@@ -103,21 +121,21 @@ pub fn ways_store_put(store: &mut Store, sheet: &[u8], work: &mut [u8], slip: &[
         ≡ put_bytes (shelf_of store.old) sheet.now work.old slip.now)
         × (shelf_of store.new ≡ shelf_of store.old → store.new ≡ store.old) }
 {
-    let answer = store_bytes::put_bytes(*store, sheet, work, slip);
-    *store = answer.store;
-    answer.number
+    let (number, after) = store_bytes::put_bytes(*store, sheet, work, slip);
+    *store = after;
+    number
 }
 
 // Ask with the slip written: the store is lent, only to be read.
 pub fn ways_store_ask(store: &Store, sheet: &[u8], slip: &mut [u8]) -> u32
     ensures { record { number = result; slip = slip.new } ≡ ask_bytes (shelf_of store.now) sheet.now slip.old }
 {
-    store_bytes::ask_bytes(*store, sheet, slip)
+    store_bytes::ask_bytes(store, sheet, slip)
 }
 
 // The store that is lent holds nothing afterwards.
 pub fn ways_store_empty(store: &mut Store)
     ensures { store.new ≡ empty_store }
 {
-    *store = store::empty();
+    *store = Store::empty();
 }

@@ -1,40 +1,33 @@
 // The programs' standard input, and what they say where it or standard output fails.
 #![tactic(auto)]
 
-ghost use Rattle.std.specs.Prelude.{◌≡◌, ◌≤ℤ◌, pos, negsuc, length, MatchOption};
-ghost use Rattle.program_input.specs.Reads.{Moved, Filled};
+ghost use Rattle.std.specs.Prelude.{◌≤◌, length, IfOk, OnErr};
+ghost use Rattle.program_input.specs.Reads.{Filled, Begun};
 ghost use Rattle.program_input.specs.Words.{IsWords};
 
+use std::io;
 use std::io::{Cursor, Error, Read, Write};
 
 // The bytes that a program reads at most.
 pub const INPUT_BYTES: usize = 8192;
 
-// Reads until `input` is full or the reader ends, and answers how many bytes are then at its start, or -1 where a read failed: a sheet of which only
-// a part could be read is not judged. Where a read failed, and only there, its error is then in `fault`. Which bytes are read no contract can
-// say of standard input; of a reader whose bytes are known the last clause says it.
-pub fn read_input<R: Read>(reader: &mut R, input: &mut [u8], fault: &mut Option<Error>) -> isize
-    requires { length input.old ≡ 8192 }
-    ensures count_or_minus_one { Moved 8192 result }
-    ensures minus_one_at_fault { MatchOption fault.new ((pos 0 ≤ℤ result) × (result ≤ℤ pos 8192)) (λ _. result ≡ negsuc 0) }
-    ensures bytes_read_in_front { Filled (R.remaining reader.old) (R.remaining reader.new) input.new result }
+// Reads until `input` is full or the reader ends, and answers how many bytes are then at its start. Where a read failed its error is the answer: a sheet of
+// which only a part could be read is not judged. Which bytes are read no contract can say of standard input; of a reader whose bytes are known the last
+// two clauses say it.
+pub fn read_input<R: Read>(reader: &mut R, input: &mut [u8]) -> io::Result<usize>
+    ensures count_inside { IfOk result (λ n. n ≤ length input.new) }
+    ensures bytes_read_in_front { IfOk result (λ n. Filled (R.remaining reader.old) (R.remaining reader.new) input.new n) }
+    ensures no_more_taken { OnErr result (Begun (R.remaining reader.old) (R.remaining reader.new) input.new) }
 {
-    *fault = None;
     let mut done: usize = 0;
     while done < input.len() {
-        let more = match reader.read(&mut input[done..]) {
-            Ok(more) => more,
-            Err(error) => {
-                *fault = Some(error);
-                return -1;
-            }
-        };
+        let more = reader.read(&mut input[done..])?;
         if more == 0 {
-            return done as isize;
+            break;
         }
         done += more;
     }
-    done as isize
+    Ok(done)
 }
 
 // More bytes than the library prints of any error of the system.

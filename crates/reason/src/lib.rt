@@ -9,7 +9,6 @@ ghost use Rattle.sheet_required.specs.Whole.{Whole};
 ghost use Rattle.reason_rules.specs.Reason.{prunes, reason_in, reason_on, reasoned};
 
 use sheet::Header;
-use sheet_reader::SheetRead;
 use walks::{ARC_NUMBERS, GOALS, ITEMS, OPEN};
 use work::Answer;
 
@@ -88,9 +87,9 @@ pub fn reason_sheet(sheet: &[u8], slip: &mut [u8], item: u32) -> Answer
     let mut arcs = [0u32; ARC_NUMBERS];
     let mut marks = [0u8; ITEMS];
     let header = match sheet_reader::read(sheet, &mut arcs, &mut marks) {
-        SheetRead::Got(header) => header,
-        SheetRead::Refused(why) => return Answer {
-            number: why,
+        Ok(header) => header,
+        Err(why) => return Answer {
+            number: u32::from(why),
             length: 0,
         },
     };

@@ -122,17 +122,14 @@ put_arc xs d out c t h w room P =
     (simp length-append (omega (arith, P.0)), three ∙ ap (λ (ys : List ℕ). front ys d) e)
 
 -- arc i is left out, or its numbers are there
-pub arc_shut : (N : Net) (i : ℕ) → closed N (N.nodes + i) ≡ true → open_arc N i ≡ []
+pub not_there : (N : Net) (i : ℕ) → (Open N i → ⊥) → open_arc N i ≡ []
 unfolding open_arc
-arc_shut N i q = rw q
-
-pub head_shut : (N : Net) (i : ℕ) → closed N (head_at N i) ≡ true → open_arc N i ≡ []
-unfolding open_arc
-head_shut N i q = go (closed N (N.nodes + i))
+not_there N i x = go (closed N (N.nodes + i)) (closed N (head_at N i)) (λ q r. x (q, r))
   where
-    go : (t : Bool) → pick t [] (pick (closed N (head_at N i)) [] (tail_at N i ∷ head_at N i ∷ weight_at N i ∷ [])) ≡ []
-    go true = refl
-    go false = rw q
+    go : (t u : Bool) → (t ≡ false → u ≡ false → ⊥) → pick t [] (pick u [] (tail_at N i ∷ head_at N i ∷ weight_at N i ∷ [])) ≡ []
+    go true u y = refl
+    go false true y = refl
+    go false false y = absurd (y refl refl)
 
 pub arc_there : (N : Net) (i : ℕ) → Open N i → open_arc N i ≡ tail_at N i ∷ head_at N i ∷ weight_at N i ∷ []
 unfolding open_arc
@@ -160,8 +157,9 @@ unfolding open_to
 looked N d zero h = record { many = 0; numbers = refl; packed = pack_begun N d }
 looked N d (suc n) h = more (looked N d n (omega arith)) (closed N (N.nodes + n)) (closed N (head_at N n)) refl refl
   where
-    left : Looked N n d → (Open N n → ⊥) → open_arc N n ≡ [] → Looked N (suc n) d
-    left L x e =
+    left : Looked N n d → (Open N n → ⊥) → Looked N (suc n) d
+    left L x =
+        let e = not_there N n x in
         let same : open_to N n ++ open_arc N n ≡ open_to N n = ap (λ (ys : List ℕ). open_to N n ++ ys) e ∙ append-nil (open_to N n) in
         record { many = L.many; numbers = ap length same ∙ L.numbers; packed = rw (same, ← add-one n) (pack_none x L.packed) }
 
@@ -174,13 +172,21 @@ looked N d (suc n) h = more (looked N d n (omega arith)) (closed N (N.nodes + n)
         record { many = L.many + 1; numbers = rw e (sym P.0); packed = rw (e, ← P.1, ← add-one n) (pack_one N n (front (open_to N n) d) L.many room o L.packed) }
 
     more : Looked N n d → (t u : Bool) → closed N (N.nodes + n) ≡ t → closed N (head_at N n) ≡ u → Looked N (suc n) d
-    more L true u q r = left L (λ o. true≢false (sym q ∙ o.0)) (arc_shut N n q)
-    more L false true q r = left L (λ o. true≢false (sym r ∙ o.1)) (head_shut N n r)
+    more L true u q r = left L (λ o. true≢false (sym q ∙ o.0))
+    more L false true q r = left L (λ o. true≢false (sym r ∙ o.1))
     more L false false q r = put L (q, r)
 
 pub open_more : (N : Net) (n : ℕ) → open_to N (n + 1) ≡ open_to N n ++ open_arc N n
 unfolding open_to
 open_more N n = ap (open_to N) (add-one n)
+
+-- the next arc looked at: one that is not open is left out, an open one is put behind the others
+pub left_out : (N : Net) (n r : ℕ) (d out : List ℕ) → (Open N n → ⊥) → Put (open_to N n) d out r → Put (open_to N (n + 1)) d out r
+left_out N n r d out x P = rw (open_more N n) (put_nothing (open_to N n) d out (open_arc N n) r (not_there N n x) P)
+
+pub put_open : (N : Net) (n c : ℕ) (d out : List ℕ) → c * 3 + 2 < length out → Open N n → Put (open_to N n) d out (c * 3)
+    → Put (open_to N (n + 1)) d (arc_set out c (tail_at N n) (head_at N n) (weight_at N n)) ((c + 1) * 3)
+put_open N n c d out room o P = rw (open_more N n, arc_there N n o) (put_arc (open_to N n) d out c (tail_at N n) (head_at N n) (weight_at N n) room P)
 
 -- what packing gives and leaves: the r numbers in front are those of the open arcs
 pub record Packs (N : Net) (out : List ℕ) (r : ℕ) : Type 0 where

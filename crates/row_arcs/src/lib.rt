@@ -1,55 +1,40 @@
 // The open arcs with an open head, packed to the front of an array.
 #![tactic(auto)]
 
-ghost use Rattle.std.specs.Prelude.{ℕ, ◌*◌, ◌≤◌, ◌<◌, List, ◌++◌, length, take};
+ghost use Rattle.std.specs.Prelude.{◌≡◌, ◌+◌, ◌*◌, ◌≤◌, ◌<◌, length, take};
 ghost use Rattle.lists.specs.Lists.{Put};
-ghost use Rattle.rows.specs.Net.{net_of, arc_count, Proper, Packed};
-ghost use Rattle.row_arcs.specs.OpenArcs.{open_arc, open_arcs};
+ghost use Rattle.rows.specs.Net.{count, tail_at, head_at, weight_at, arc_set, Packed};
+ghost use Rattle.row_arcs.specs.OpenArcs.{open_arcs};
 
-use walks::FORBIDDEN;
+use rows::net::Net;
 
-// Puts the arc behind the `count` arcs that are packed, where it and its head are open.
-fn pack_arc(
-    nodes: usize,
-    arcs: &[u32],
-    marks: &[u8],
-    packed: &mut [u32],
-    arc: usize,
-    count: usize,
-) -> usize
-    requires { let N = net_of nodes arcs.now marks.now in
-        Proper N × (arc < arc_count arcs.now) × (count ≤ arc) × (length arcs.now ≤ length packed.old) }
-    ensures { let N = net_of nodes arcs.now marks.now in
-        ((xs d : List ℕ) → Put xs d packed.old (count * 3) → Put (xs ++ open_arc N arc) d packed.new (result * 3)) }
+// Writes the numbers of the arc at the packed arcs' place `place`.
+pub fn put_arc(net: &Net, arc: usize, packed: &mut [u32], place: usize)
+    requires { (arc < count net.now) × (place * 3 + 2 < length packed.old) }
+    ensures { let N = net.now in
+        packed.new ≡ arc_set packed.old place (tail_at N arc) (head_at N arc) (weight_at N arc) }
 {
-    let at = arc * 3;
-    let head = arcs[at + 1];
-    if marks[nodes + arc] == FORBIDDEN {
-        return count;
-    }
-    if marks[head as usize] == FORBIDDEN {
-        return count;
-    }
-    let to = count * 3;
-    packed[to] = arcs[at];
-    packed[to + 1] = head;
-    packed[to + 2] = arcs[at + 2];
-    count + 1
+    let arcs = net.arcs;
+    let from = arc * 3;
+    let to = place * 3;
+    packed[to] = arcs[from];
+    packed[to + 1] = arcs[from + 1];
+    packed[to + 2] = arcs[from + 2];
 }
 
 // Writes the open arcs with an open head to the front of `packed`, in their order, and gives how many numbers they take.
-pub fn pack(nodes: usize, arcs: &[u32], marks: &[u8], packed: &mut [u32]) -> usize
-    requires { Proper (net_of nodes arcs.now marks.now) × (length arcs.now ≤ length packed.old) }
-    ensures { let N = net_of nodes arcs.now marks.now in
+pub fn pack(net: &Net, packed: &mut [u32]) -> usize
+    requires { length net.now.arcs ≤ length packed.old }
+    ensures { let N = net.now in
         let out = packed.new in
-        (result ≤ length out) × Packed N (take result out) × (result ≤ length arcs.now) × Put (open_arcs N) packed.old out result }
+        (result ≤ length out) × Packed N (take result out) × (result ≤ length N.arcs) × Put (open_arcs N) packed.old out result }
 {
-    let m = arcs.len() / 3;
     let mut count = 0;
-    let mut i = 0;
-    while i < m {
-        count = pack_arc(nodes, arcs, marks, packed, i, count);
-        i += 1;
+    for arc in 0..net.arc_count() {
+        if net.is_open(arc) {
+            put_arc(net, arc, packed, count);
+            count += 1;
+        }
     }
     count * 3
 }

@@ -1,23 +1,16 @@
 -- A row that is filled with what stands for missing is sound, and no arc can cut an entry of it. Assumes nothing.
 use Prim.Native.Nat.{ℕ, ◌≤◌, ◌<◌}
-use mathlib.Core.Path.{◌≡◌, ap, ◌∙◌}
+use mathlib.Core.Path.{◌≡◌}
 use mathlib.Core.Logic.{inr}
-use mathlib.Core.List.{List, [], ◌++◌, append-nil}
+use mathlib.Core.List.{List}
 use native.Mathlib.Omega.{arith}
-use lib.ListN.{length, get_or, drop, replicate}
-use lib.Seq.{drop-length}
+use lib.ListN.{get_or, get_or-replicate, replicate}
 use Rattle.rows.specs.Bits.{alone}
 use Rattle.rows.specs.Held.{missing}
 use Rattle.rows.specs.Net.{Net, Proper, Joins, Packed}
-use Rattle.rows.specs.Rows.{Sound, Away}
-use Rattle.row_spread.specs.Active.{Mendable}
+use Rattle.rows.specs.Rows.{Sound, Away, RowIs, StartOf}
+use Rattle.row_spread.specs.Active.{Mendable, Mended}
 use Rattle.rows.proofs.BitLaws.{bit_own}
-
--- a row filled to its end
-pub filled : (i v : ℕ) (d e : List ℕ) → i ≡ length d → e ≡ replicate i v ++ drop i d → e ≡ replicate (length d) v
-filled i v d e q p =
-    let z : drop (length d) d ≡ [] = drop-length d in
-    p ∙ ap (λ (k : ℕ). replicate k v ++ drop k d) q ∙ ap (λ (l : List ℕ). replicate (length d) v ++ l) z ∙ append-nil (replicate (length d) v)
 
 -- a row with no entry is sound
 pub blank_sound : (N : Net) (cap s : ℕ) (d : List ℕ) → N.nodes ≤ 64 → cap < missing → ((v : ℕ) → v < 64 → get_or d v 0 ≡ missing) → Sound N cap s d
@@ -30,6 +23,14 @@ blank_mendable cap xs marks s d J hs c b = record {
   still = record { tried = λ j h z k. absurd (omega (arith, b _ (J j h).0)) };
   begun = λ z. absurd (omega (arith, bit_own s hs));
 }
+
+-- it is mended to least lengths
+pub blank_mended : {cap : ℕ} {xs marks : List ℕ} {s n : ℕ} {d : List ℕ} (e : List ℕ) → Joins 64 xs → s < 64 → cap < missing → n ≡ 64 → d ≡ replicate n missing
+    → Mended cap xs marks s (alone s) d e → (N : Net) → StartOf N xs marks s → RowIs N cap s e
+blank_mended {cap} {xs} {marks} {s} {n} {d} e j hs c q f M N S = M N S (blank_sound N cap s d S.proper.few c b) (blank_mendable cap xs marks s d j hs c b)
+  where
+    b : (v : ℕ) → v < 64 → get_or d v 0 ≡ missing
+    b v h = rw f (get_or-replicate n v missing 0 (omega arith))
 
 -- no arc enters what is no node
 pub behind_away : {N : Net} {xs : List ℕ} {s v : ℕ} → Proper N → Packed N xs → s < N.nodes → N.nodes ≤ v → Away xs s v

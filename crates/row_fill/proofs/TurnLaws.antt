@@ -3,35 +3,16 @@ use Prim.Native.Nat.{ℕ, ◌+◌, ◌*◌, ◌/◌, ◌≤◌, ◌<◌}
 use mathlib.Core.Path.{◌≡◌, sym, ap, ◌∙◌}
 use mathlib.Core.List.{List}
 use native.Mathlib.Omega.{arith}
-use lib.ListN.{length, get_or, take}
+use lib.ListN.{length, take}
 use lib.Seq.{get_or-take, length-take-le}
-use borrow.Author.Count.{below_more}
-use Rattle.rows.proofs.ArcLaws.{set_before, set_tail, set_head, set_weight, tail_at_lem, head_at_lem, weight_at_lem}
+use Rattle.rows.proofs.ArcLaws.{tail_at_lem, head_at_lem, weight_at_lem}
 use Rattle.walks.proofs.FlatLaws.{arcs_count}
 use Rattle.rows.specs.Held.{held}
-use Rattle.rows.specs.Net.{Net, net_of, closed, count, tail_in, head_in, weight_in, tail_at, head_at, weight_at, Proper, arc_set}
+use Rattle.rows.specs.Net.{Net, net_of, closed, count, tail_at, head_at, weight_at}
 use Rattle.rows.specs.Rows.{RowIs, RowTo}
 use Rattle.walks.proofs.BackLaws.{Turned, least_back}
 use Rattle.walks.specs.Flat.{arcs_of}
 use Rattle.row_spread.specs.Arcs.{TurnedTo}
-
--- arc i is written
-pub turned_more : (xs ys : List ℕ) (i : ℕ) → i * 3 + 2 < length ys → TurnedTo i xs ys → TurnedTo (i + 1) xs (arc_set ys i (head_in xs i) (tail_in xs i) (weight_in xs i))
-turned_more xs ys i h T =
-    below_more _ i (λ k q. let t = T k q in (same (k * 3) (omega arith) ∙ t.0, same (k * 3 + 1) (omega arith) ∙ t.1, same (k * 3 + 2) (omega arith) ∙ t.2))
-    (set_tail ys i a b c h, set_head ys i a b c h, set_weight ys i a b c h)
-  where
-    a : ℕ
-    a = head_in xs i
-
-    b : ℕ
-    b = tail_in xs i
-
-    c : ℕ
-    c = weight_in xs i
-
-    same : (k : ℕ) → k < i * 3 → get_or (arc_set ys i a b c) k 0 ≡ get_or ys k 0
-    same = set_before ys i a b c h
 
 -- the arcs xs, and the first of ys as many as those, exchanged
 module _ (n : ℕ) (xs ys ms : List ℕ) (long : length xs ≤ length ys) (T : TurnedTo (length xs / 3) xs ys) where
@@ -55,14 +36,6 @@ module _ (n : ℕ) (xs ys ms : List ℕ) (long : length xs ≤ length ys) (T : T
 
   at_weight : (i : ℕ) → i < count N → weight_at M i ≡ weight_at N i
   at_weight i h = get_or-take (length xs) ys (i * 3 + 2) 0 (omega arith) ∙ (T i h).2
-
-  pub turned_proper : Proper N → Proper M
-  turned_proper p = record {
-    few = p.few;
-    marked = rw same_count p.marked;
-    tails = λ i h. rw (at_tail i (rw same_count at h)) (p.heads i (rw same_count at h));
-    heads = λ i h. rw (at_head i (rw same_count at h)) (p.tails i (rw same_count at h));
-  }
 
   turned_arcs : Turned n (arcs_of xs) (arcs_of zs)
   turned_arcs = record {

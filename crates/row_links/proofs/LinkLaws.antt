@@ -2,10 +2,12 @@
 use Prim.Native.Nat.{ℕ, zero, suc, ◌+◌, ◌-◌, ◌*◌, ◌/◌, ◌≤◌, ◌<◌}
 use mathlib.Core.Path.{◌≡◌, refl, sym, ap, ◌∙◌, subst}
 use mathlib.Core.Bool.{true, false}
-use mathlib.Core.List.{List, [], ◌∷◌}
+use mathlib.Core.List.{List, [], ◌∷◌, ◌++◌}
 use native.Mathlib.Omega.{arith}
-use lib.ListN.{length, get_or, take, drop, set, length-set, length-drop}
-use lib.Seq.{get_or-take, get_or-drop, length-take-le, take-take, take_at, take-set-le, drop-set-lt}
+use lib.ListN.{length, get_or, take, drop, set, replicate, length-set, length-take, length-drop, length-append, length-replicate, get_or-replicate}
+use lib.Seq.{get_or-take, get_or-drop, get_or-append-add, length-take-le, take-take, take_at, take-set-le, drop-set-lt}
+use borrow.Rule.Slice.PartMut.{put_mid}
+use Rattle.std.proofs.lemmas.Slice.{take-put_mid, take-put_mid_below, drop-put_mid}
 use Rattle.walks.specs.Graph.{closed_in}
 use Rattle.rows.specs.Net.{Net, net_of, closed, head_at, count, arc_count, tail_in, head_in, weight_in, Proper, Joins, arc_set}
 use Rattle.rows.proofs.ArcLaws.{set_before, set_tail}
@@ -184,9 +186,50 @@ pub link_anew : {n : ℕ} {xs marks : List ℕ} {i c : ℕ} {ps after : List ℕ
 link_anew full L = record { opened = λ old e _. L; again = λ old e _ h q. absurd (omega (arith, full h, L.room)) }
 
 -- no arc is chained yet
-pub unchained : (end : ℕ → ℕ) {chains : List ℕ} → length chains ≡ 576 → ((u : ℕ) → u < 64 → get_or chains u 0 ≡ 0) → ChainedBy end 0 chains
+unchained : (end : ℕ → ℕ) {chains : List ℕ} → length chains ≡ 576 → ((u : ℕ) → u < 64 → get_or chains u 0 ≡ 0) → ChainedBy end 0 chains
 unfolding last_at
 unchained end long zeros = record { few = omega arith; long = long; lasts = zeros; befores = λ i h. absurd (omega arith) }
+
+-- the chains cleared: no arc is touched, and nothing behind them
+pub cleared : (end : ℕ → ℕ) (ps zs : List ℕ) → length ps ≡ 2112 → zs ≡ replicate 64 0
+    → (length (put_mid 1536 64 ps zs) ≡ length ps) × (take 1536 (put_mid 1536 64 ps zs) ≡ take 1536 ps) × ChainedBy end 0 (drop 1536 (put_mid 1536 64 ps zs))
+    × (drop 1600 (put_mid 1536 64 ps zs) ≡ drop 1600 ps)
+cleared end ps zs long z = (
+  same_long,
+  take-put_mid_below 1536 64 ps zs 1536 (omega arith) (omega arith),
+  unchained end (omega (arith, same_long, length-drop 1536 (put_mid 1536 64 ps zs))) (λ u h. get_or-drop 1536 (put_mid 1536 64 ps zs) u 0 ∙ zero u h),
+  drop-put_mid 1536 64 ps zs 1600 (omega arith) (omega arith) size,
+)
+  where
+    size : length zs ≡ 64
+    size = ap length z ∙ length-replicate {A = ℕ} 64 0
+
+    before : length (take 1536 ps) ≡ 1536
+    before = length-take-le 1536 ps (omega arith)
+
+    front_is : take 1600 (put_mid 1536 64 ps zs) ≡ take 1536 ps ++ zs
+    front_is = take-put_mid 1536 64 ps zs 1600 (omega (arith, size)) (omega arith)
+
+    same_long : length (put_mid 1536 64 ps zs) ≡ length ps
+    same_long =
+        omega (
+          arith,
+          long,
+          size,
+          ap length front_is,
+          length-append (take 1536 ps) zs,
+          before,
+          ap length (drop-put_mid 1536 64 ps zs 1600 (omega arith) (omega arith) size),
+          length-drop 1600 ps,
+          length-drop 1600 (put_mid 1536 64 ps zs),
+          length-take 1600 (put_mid 1536 64 ps zs),
+        )
+
+    zero : (u : ℕ) → u < 64 → get_or (put_mid 1536 64 ps zs) (1536 + u) 0 ≡ 0
+    zero u h =
+        sym (get_or-take 1600 (put_mid 1536 64 ps zs) (1536 + u) 0 (omega arith)) ∙ ap (λ (l : List ℕ). get_or l (1536 + u) 0) front_is
+        ∙ ap (λ (k : ℕ). get_or (take 1536 ps ++ zs) (k + u) 0) (sym before) ∙ get_or-append-add (take 1536 ps) zs u 0
+        ∙ ap (λ (l : List ℕ). get_or l u 0) z ∙ get_or-replicate {A = ℕ} 64 u 0 0 h
 
 -- all arcs packed, and then chained
 pub all_linked : (N : Net) (d ps after : List ℕ) (r : ℕ) → length N.arcs ≤ 1536 → length d ≡ 2112 → Put (open_arcs N) d ps r

@@ -1,17 +1,18 @@
 // The open arcs, packed and chained by their tails, while items are opened and closed again.
 #![tactic(auto)]
 
-ghost use Rattle.std.specs.Prelude.{◌≡◌, ◌+◌, ◌*◌, ◌≤◌, ◌<◌, length, get_or, take, drop};
-ghost use Rattle.rows.specs.Net.{net_of, arc_count, tail_in, Proper, Joins};
+ghost use Rattle.std.specs.Prelude.{◌≡◌, ◌+◌, ◌-◌, ◌*◌, ◌≤◌, ◌<◌, length, get_or, take, drop};
+ghost use Rattle.rows.specs.Net.{count as arcs_of, tail_in, Joins};
 ghost use Rattle.row_spread.specs.Arcs.{ChainedBy};
 ghost use Rattle.row_links.specs.Links.{put_on, taken_off, AllLinked, ItemLinked};
 
 use row_spread::CHAIN_NUMBERS;
 use rows::ROW_LENGTH;
-use walks::{ARC_NUMBERS, ARCS, FORBIDDEN};
+use rows::net::Net;
+use walks::{ARC_NUMBERS, ARCS};
 
 // Where the chains begin: behind the packed arcs.
-pub const CHAINS: usize = ARC_NUMBERS;
+const CHAINS: usize = ARC_NUMBERS;
 
 // The numbers of the packed arcs and their chains.
 pub const LINK_NUMBERS: usize = CHAINS + CHAIN_NUMBERS;
@@ -33,81 +34,78 @@ fn chain_all(packed: &mut [u32], count: usize)
         (take 1536 packed.new ≡ take 1536 ps) × ChainedBy (tail_in ps) count (drop 1536 packed.new) }
     ensures behind_chains_unchanged { drop (1600 + count) packed.new ≡ drop (1600 + count) packed.old }
 {
-    let mut node = 0;
-    while node < ROW_LENGTH {
-        packed[CHAINS + node] = 0;
-        node += 1;
-    }
-    let mut arc = 0;
-    while arc < count {
+    packed[CHAINS..CHAINS + ROW_LENGTH].fill(0);
+    for arc in 0..count {
         put_on(packed, arc);
-        arc += 1;
     }
 }
 
-// Packs the open arcs and chains them, and gives how many there are.
-pub fn pack_all(nodes: usize, arcs: &[u32], marks: &[u8], packed: &mut [u32]) -> usize
-    requires { Proper (net_of nodes arcs.now marks.now) × (length arcs.now ≤ 1536) × (length packed.old ≡ 2112) }
-    ensures { AllLinked (net_of nodes arcs.now marks.now) result packed.old packed.new }
-{
-    let count = row_arcs::pack(nodes, arcs, marks, packed) / 3;
-    chain_all(packed, count);
-    count
+// The open arcs of a graph, packed and chained, and how many there are.
+#[derive(Drop)]
+pub struct Links {
+    pub numbers: [u32; LINK_NUMBERS],
+    pub count: usize,
 }
 
-// Puts the arc behind the `count` arcs that are packed, and in front of its tail's chain, where its head is open.
-fn add_arc(
-    nodes: usize,
-    arcs: &[u32],
-    marks: &[u8],
-    packed: &mut [u32],
-    arc: usize,
-    count: usize,
-) -> usize
-    requires { Proper (net_of nodes arcs.now marks.now) × (arc < arc_count arcs.now) × (count < 512) × (length packed.old ≡ 2112) }
-    ensures { let N = net_of nodes arcs.now marks.now in
-        ItemLinked N (nodes + arc) count packed.old packed.new result }
-{
-    let at = arc * 3;
-    let head = arcs[at + 1];
-    if marks[head as usize] == FORBIDDEN {
-        return count;
+impl Links {
+    // Packs the open arcs and chains them.
+    pub fn pack(&mut self, net: &Net)
+        ensures { AllLinked net.now self.new.count self.old.numbers self.new.numbers }
+    {
+        // Opened for what every net keeps: its arcs are few, and join its nodes.
+        let _ = &net.nodes;
+        self.count = row_arcs::pack(net, &mut self.numbers) / 3;
+        chain_all(&mut self.numbers, self.count);
     }
-    let to = count * 3;
-    packed[to] = arcs[at];
-    packed[to + 1] = head;
-    packed[to + 2] = arcs[at + 2];
-    put_on(packed, count);
-    count + 1
-}
 
-// The packed arcs once the item is opened, of which there were `count`: an arc is put behind them, and else they are packed anew.
-pub fn pack_opened(
-    nodes: usize,
-    arcs: &[u32],
-    marks: &[u8],
-    packed: &mut [u32],
-    item: usize,
-    count: usize,
-) -> usize
-    requires { let N = net_of nodes arcs.now marks.now in
-        Proper N × (item < nodes + arc_count arcs.now) × (length arcs.now ≤ 1536) × (length packed.old ≡ 2112) }
-    ensures { let N = net_of nodes arcs.now marks.now in
-        ItemLinked N item count packed.old packed.new result }
-{
-    if item >= nodes {
-        if count < ARCS {
-            return add_arc(nodes, arcs, marks, packed, item - nodes, count);
+    // Puts the arc behind the packed ones, and in front of its tail's chain, where its head is open.
+    fn add_arc(&mut self, net: &Net, arc: usize)
+        requires { (arc < arcs_of net.now) × (self.old.count < 512) }
+        ensures { ItemLinked net.now (net.now.nodes + arc) self.old.count self.old.numbers self.new.numbers self.new.count }
+    {
+        // Opened for what every net keeps: its nodes are few.
+        let _ = &net.nodes;
+        if net.is_closed(net.head(arc)) {
+            return;
         }
+        row_arcs::put_arc(net, arc, &mut self.numbers, self.count);
+        put_on(&mut self.numbers, self.count);
+        self.count += 1;
     }
-    pack_all(nodes, arcs, marks, packed)
-}
 
-// Takes the arc behind the `count` first ones off its tail's chain.
-pub fn take_off(packed: &mut [u32], count: usize)
-    requires { (length packed.old ≡ 2112) × (count < 512) × (get_or packed.old (count * 3) 0 < 64) }
-    ensures { packed.new ≡ taken_off packed.old count }
-{
-    let chain = CHAINS + packed[count * 3] as usize;
-    packed[chain] = packed[CHAINS + ROW_LENGTH + count];
+    // The item is opened: an arc is put behind the packed ones, and else all are packed anew.
+    pub fn open(&mut self, net: &Net, item: usize)
+        requires { item < net.now.nodes + arcs_of net.now }
+        ensures { ItemLinked net.now item self.old.count self.old.numbers self.new.numbers self.new.count }
+    {
+        let before = self.count;
+        if item < net.nodes || before >= ARCS {
+            self.pack(net);
+            return;
+        }
+        self.add_arc(net, item - net.nodes);
+    }
+
+    // Takes the last arc off its tail's chain.
+    pub fn take_off(&mut self)
+        requires { (0 < self.old.count) × (self.old.count ≤ 512) × (get_or self.old.numbers ((self.old.count - 1) * 3) 0 < 64) }
+        ensures { (self.new.count + 1 ≡ self.old.count) × (self.new.numbers ≡ taken_off self.old.numbers self.new.count) }
+    {
+        self.count -= 1;
+        let chain = CHAINS + self.numbers[self.count * 3] as usize;
+        self.numbers[chain] = self.numbers[CHAINS + ROW_LENGTH + self.count];
+    }
+
+    pub fn arcs(&self) -> &[u32]
+        requires { self.now.count ≤ 512 }
+        ensures { result.now ≡ take (self.now.count * 3) self.now.numbers }
+    {
+        &self.numbers[..self.count * 3]
+    }
+
+    pub fn chains(&self) -> &[u32]
+        ensures { result.now ≡ drop 1536 self.now.numbers }
+    {
+        &self.numbers[CHAINS..]
+    }
 }

@@ -6,6 +6,8 @@ use Rattle.rows.specs.Bits.{bit_of, alone}
 use Rattle.rows.specs.Net.{Net, net_of, arc_count, tail_in, head_in, weight_in, Proper, Packed}
 use Rattle.rows.specs.Rows.{RowIs, Away, Sound, StartOf, row_at, Tried, RowsAre, RowsSound, StartsOf}
 use Rattle.row_spread.specs.Active.{Mendable}
+use Rattle.row_reopen.specs.declared.Change as code
+use Rattle.row_reopen.specs.declared.Change.TheVariants.{Node, Arc}
 
 -- a change: a node that is opened, or an arc with its ends and weight
 pub record Change : Type 0 where
@@ -16,6 +18,11 @@ pub record Change : Type 0 where
 
 abbrev pub change_of : Bool → ℕ → ℕ → ℕ → Change
 change_of node u v w = record { node = node; tail = u; head = v; weight = w }
+
+-- what the code hands on
+abbrev pub change_is : code.Change → Change
+change_is Node = change_of true 0 0 0
+change_is (Arc u v w) = change_of false u v w
 
 abbrev pub arc_at : List ℕ → ℕ → Change
 arc_at xs l = change_of false (tail_in xs l) (head_in xs l) (weight_in xs l)

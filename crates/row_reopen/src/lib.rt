@@ -3,209 +3,168 @@
 
 ghost use Rattle.std.specs.Prelude.{◌≡◌, true, false, ◌+◌, ◌*◌, ◌≤◌, ◌<◌, length, take};
 ghost use Rattle.rows.specs.Held.{missing};
-ghost use Rattle.rows.specs.Net.{net_of, arc_count, Proper, Joins};
-ghost use Rattle.rows.specs.Rows.{Tried, AwaySame, row_at, StartsFit, scratch_numbers};
+ghost use Rattle.rows.specs.Net.{count as arcs_of, arc_count, Joins};
+ghost use Rattle.rows.specs.Rows.{AwaySame, row_at, StartsFit, scratch_numbers};
 ghost use Rattle.row_links.specs.Links.{Shaped};
-ghost use Rattle.row_reopen.specs.Openings.{change_of, Mends, RowMended, Saves, Spared, RowsAway, RowsMended, Entering, ItemOpened};
+ghost use Rattle.row_reopen.specs.Openings.{change_is, Mends, RowMended, Saves, Spared, RowsAway, RowsMended, Entering, ItemOpened, Idle};
 
-use row_links::CHAINS;
+use row_links::Links;
+use row_save::RowSet;
 use row_spread::Mend;
 use rows::ROW_LENGTH;
+use rows::net::Net;
 use walks::FORBIDDEN;
 
-// Whether an arc can cut an entry of the row.
-fn cuts(row: &[u32], tail: usize, head: usize, weight: u32, cap: u32) -> bool
-    requires { (tail < length row.now) × (head < length row.now) × (cap < missing) }
-    ensures { (result ≡ false → Tried cap row.now tail head weight) × (result ≡ true → Tried cap row.now tail head weight → ⊥) }
-{
-    let here = row[tail];
-    if here > cap {
-        return false;
-    }
-    if weight > cap - here {
-        return false;
-    }
-    if here + weight < row[head] {
-        return true;
-    }
-    false
+// What is opened, as the rows meet it.
+#[derive(Clone, Copy, Debug, PartialEq, Eq)]
+pub enum Change {
+    Node,
+    Arc {
+        tail: usize,
+        head: usize,
+        weight: u32,
+    },
 }
 
-// What is opened, as the rows meet it: the nodes whose arcs are to be tried first, one bit each, and a node, or an arc with its ends and weight.
-#[derive(Clone, Copy)]
-pub struct Change {
+// How the rows are mended for a change: over the linked arcs, clear of what the marks forbid, for walks of length at most `cap`, with the arcs of the
+// active nodes tried first, one bit each.
+#[derive(Drop)]
+pub struct Mending<'a> {
+    pub change: Change,
     pub active: u64,
-    pub node: bool,
-    pub tail: usize,
-    pub head: usize,
-    pub weight: u32,
-}
-
-// Whether a row has to be mended: for a node always, for an arc where it can cut an entry.
-fn may_cut(row: &[u32], change: Change, cap: u32) -> bool
-    requires { (change.tail < length row.now) × (change.head < length row.now) × (cap < missing) }
-    ensures { let idle = Tried cap row.now change.tail change.head change.weight in
-        (result ≡ false → (change.node ≡ false) × idle) × (result ≡ true → change.node ≡ false → idle → ⊥) }
-{
-    if change.node {
-        return true;
-    }
-    cuts(row, change.tail, change.head, change.weight, cap)
-}
-
-// A row by its number, the node where it starts, how many arcs are packed, the cap, and the rows that are kept already, one bit each.
-#[derive(Clone, Copy)]
-pub struct Row {
-    pub number: usize,
-    pub from: usize,
-    pub count: usize,
     pub cap: u32,
-    pub kept: u64,
+    pub links: &'a Links,
+    pub marks: &'a [u8],
 }
 
-// Keeps the row and mends it, if it has to be mended, and gives the rows that are kept then.
-fn mend_kept(row: Row, change: Change, packed: &[u32], marks: &[u8], work: &mut [u32]) -> u64
-    requires shaped { Shaped row.count packed.now × (row.number < 9) × (length work.old ≡ scratch_numbers) }
-    requires start_and_change_fit { (row.from < 64) × (row.from < length marks.now) × (row.cap < missing) × (change.tail < 64) × (change.head < 64) }
-    ensures row_kept_if_cut { let C = change_of change.node change.tail change.head change.weight in
-        Mends row.number row.cap C row.kept work.old work.new result }
-    ensures row_mended { let C = change_of change.node change.tail change.head change.weight in
-        let ys = take (row.count * 3) packed.now in
-        let old = row_at work.old row.number in
-        let new = row_at work.new row.number in
-        RowMended row.cap ys marks.now row.from change.active C old new × AwaySame ys row.from old new }
-{
-    let number = row.number;
-    let at = number * ROW_LENGTH;
-    if !may_cut(&work[at..at + ROW_LENGTH], change, row.cap) {
-        return row.kept;
+impl<'a> Mending<'a> {
+    // Whether a row has to be mended: for a node always, for an arc where it can cut an entry.
+    fn may_cut(&self, row: &[u32]) -> bool
+        requires { let C = change_is self.now.change in
+            (C.tail < length row.now) × (C.head < length row.now) }
+        ensures { let C = change_is self.now.change in
+            (result ≡ false → (C.node ≡ false) × Idle self.now.cap C row.now) × (result ≡ true → C.node ≡ false → Idle self.now.cap C row.now → ⊥) }
+    {
+        match self.change {
+            Change::Node => true,
+            Change::Arc { tail, head, weight } => {
+                rows::shorter(row, tail, head, weight, self.cap).is_some()
+            }
+        }
     }
-    row_save::keep_row(work, number);
-    let used = row.count * 3;
-    let mend = Mend {
-        from: row.from,
-        active: change.active,
-        cap: row.cap,
-    };
-    row_spread::mend_row(
-        mend,
-        &packed[..used],
-        &packed[CHAINS..],
-        marks,
-        &mut work[at..at + ROW_LENGTH],
-    );
-    row.kept | 1u64 << number
-}
 
-// An item of a graph of `nodes` nodes that is opened, for walks of length at most `cap`, with `count` arcs packed.
-#[derive(Clone, Copy)]
-pub struct Opening {
-    pub nodes: usize,
-    pub item: usize,
-    pub cap: u32,
-    pub count: usize,
-}
-
-// Mends every row that has to be mended, and gives those that were, one bit each; they are kept as they were.
-fn mend_rows(
-    opening: Opening,
-    change: Change,
-    packed: &[u32],
-    marks: &[u8],
-    starts: &[usize],
-    work: &mut [u32],
-) -> u64
-    requires shaped_with_starts { let n = length starts.now in
-        Shaped opening.count packed.now × StartsFit marks.now starts.now work.old × (n ≤ 9) × (length work.old ≡ scratch_numbers) }
-    requires cap_and_change_fit { (opening.cap < missing) × (change.tail < 64) × (change.head < 64) }
-    ensures cut_rows_saved { let C = change_of change.node change.tail change.head change.weight in
-        Saves (length starts.now) opening.cap C work.old work.new result }
-    ensures rows_mended { let C = change_of change.node change.tail change.head change.weight in
-        let ys = take (opening.count * 3) packed.now in
-        RowsMended opening.cap ys marks.now starts.now change.active C work.old work.new }
-    ensures away_same_and_others_spared { let C = change_of change.node change.tail change.head change.weight in
-        let ys = take (opening.count * 3) packed.now in
-        let ss = starts.now in
-        let before = work.old in
-        RowsAway (length ss) ys ss before work.new × Spared (length ss) opening.cap C before result }
-{
-    let mut kept: u64 = 0;
-    let mut i = 0;
-    while i < starts.len() {
-        let row = Row {
-            number: i,
-            from: starts[i],
-            count: opening.count,
-            cap: opening.cap,
-            kept,
+    // Keeps the row, which starts at `from`, and mends it, if it has to be mended, and gives the rows that are kept then.
+    fn mend(&self, row: usize, from: usize, kept: RowSet, work: &mut [u32]) -> RowSet
+        requires shaped { Shaped self.now.links.now.count self.now.links.now.numbers × (row < 9) × (length work.old ≡ scratch_numbers) }
+        requires start_and_change_fit { let C = change_is self.now.change in
+            (from < 64) × (from < length self.now.marks.now) × (self.now.cap < missing) × (C.tail < 64) × (C.head < 64) }
+        ensures row_kept_if_cut { Mends row self.now.cap (change_is self.now.change) kept.bits work.old work.new result.bits }
+        ensures row_mended { let ys = take (self.now.links.now.count * 3) self.now.links.now.numbers in
+            let old = row_at work.old row in
+            let new = row_at work.new row in
+            RowMended self.now.cap ys self.now.marks.now from self.now.active (change_is self.now.change) old new × AwaySame ys from old new }
+    {
+        let at = row * ROW_LENGTH;
+        if !self.may_cut(&work[at..at + ROW_LENGTH]) {
+            return kept;
+        }
+        row_save::keep_row(work, row);
+        let mend = Mend {
+            from,
+            active: self.active,
+            cap: self.cap,
         };
-        kept = mend_kept(row, change, packed, marks, work);
-        i += 1;
+        row_spread::mend_row(
+            mend,
+            self.links.arcs(),
+            self.links.chains(),
+            self.marks,
+            &mut work[at..at + ROW_LENGTH],
+        );
+        kept.with(row)
     }
-    kept
+
+    // Mends every row that has to be mended, and gives those that were; they are kept as they were.
+    fn mend_all(&self, starts: &[usize], work: &mut [u32]) -> RowSet
+        requires shaped_with_starts { let n = length starts.now in
+            Shaped self.now.links.now.count self.now.links.now.numbers × StartsFit self.now.marks.now starts.now work.old × (n ≤ 9) × (length work.old ≡ scratch_numbers) }
+        requires cap_and_change_fit { let C = change_is self.now.change in
+            (self.now.cap < missing) × (C.tail < 64) × (C.head < 64) }
+        ensures cut_rows_saved { Saves (length starts.now) self.now.cap (change_is self.now.change) work.old work.new result.bits }
+        ensures rows_mended { let ys = take (self.now.links.now.count * 3) self.now.links.now.numbers in
+            RowsMended self.now.cap ys self.now.marks.now starts.now self.now.active (change_is self.now.change) work.old work.new }
+        ensures away_same_and_others_spared { let ys = take (self.now.links.now.count * 3) self.now.links.now.numbers in
+            let ss = starts.now in
+            let before = work.old in
+            RowsAway (length ss) ys ss before work.new × Spared (length ss) self.now.cap (change_is self.now.change) before result.bits }
+    {
+        let mut kept = RowSet::EMPTY;
+        for row in 0..starts.len() {
+            kept = self.mend(row, starts[row], kept, work);
+        }
+        kept
+    }
 }
 
 // The nodes whose arcs may cut an entry once a node is opened: itself, and where the arcs that enter it come from.
-fn entering(packed: &[u32], node: usize) -> u64
-    requires { Joins 64 packed.now × (node < 64) }
-    ensures { Entering (arc_count packed.now) packed.now node result }
+fn entering(arcs: &[u32], node: usize) -> u64
+    requires { Joins 64 arcs.now × (node < 64) }
+    ensures { Entering (arc_count arcs.now) arcs.now node result }
 {
-    let m = packed.len() / 3;
     let mut active = 1u64 << node;
-    let mut i = 0;
-    while i < m {
-        if packed[i * 3 + 1] as usize == node {
-            active = active | 1u64 << packed[i * 3];
+    for arc in 0..arcs.len() / 3 {
+        if arcs[arc * 3 + 1] as usize == node {
+            active |= 1u64 << arcs[arc * 3];
         }
-        i += 1;
     }
     active
 }
 
-// The rows once the item is opened. The rows that were mended are kept as they were; it gives which, one bit each. An arc to a forbidden node changes
-// nothing.
+// The rows once the item is opened, and its arcs linked. The rows that were mended are kept as they were; it gives which. An arc to a forbidden node
+// changes nothing.
 pub fn open_item(
-    opening: Opening,
-    arcs: &[u32],
-    marks: &[u8],
-    packed: &[u32],
+    net: &Net,
+    links: &Links,
+    item: usize,
+    cap: u32,
     starts: &[usize],
     work: &mut [u32],
-) -> u64
-    requires proper_net_and_item { let N = net_of opening.nodes arcs.now marks.now in
-        Proper N × (opening.item < opening.nodes + arc_count arcs.now) × (opening.cap < missing) }
+) -> RowSet
+    requires item_and_cap { (item < net.now.nodes + arcs_of net.now) × (cap < missing) }
     requires shaped_with_starts { let n = length starts.now in
-        Shaped opening.count packed.now × StartsFit marks.now starts.now work.old × (n ≤ 9) × (length work.old ≡ scratch_numbers) }
-    ensures { let xs = arcs.now in
-        let ys = take (opening.count * 3) packed.now in
-        let before = work.old in
-        ItemOpened opening.nodes xs opening.item opening.cap marks.now ys starts.now before work.new result }
+        Shaped links.now.count links.now.numbers × StartsFit net.now.marks starts.now work.old × (n ≤ 9) × (length work.old ≡ scratch_numbers) }
+    ensures { let N = net.now in
+        let ys = take (links.now.count * 3) links.now.numbers in
+        ItemOpened N.nodes N.arcs item cap N.marks ys starts.now work.old work.new result.bits }
 {
-    let nodes = opening.nodes;
-    let item = opening.item;
-    if item < nodes {
-        let used = opening.count * 3;
-        let change = Change {
-            active: entering(&packed[..used], item),
-            node: true,
-            tail: 0,
-            head: 0,
-            weight: 0,
+    let arcs = net.arcs;
+    let marks = net.marks;
+    if item < net.nodes {
+        let mending = Mending {
+            change: Change::Node,
+            active: entering(links.arcs(), item),
+            cap,
+            links,
+            marks,
         };
-        return mend_rows(opening, change, packed, marks, starts, work);
+        return mending.mend_all(starts, work);
     }
-    let at = (item - nodes) * 3;
+    let at = (item - net.nodes) * 3;
     let tail = arcs[at] as usize;
     let head = arcs[at + 1] as usize;
     if marks[head] == FORBIDDEN {
-        return 0;
+        return RowSet::EMPTY;
     }
-    let change = Change {
+    let mending = Mending {
+        change: Change::Arc {
+            tail,
+            head,
+            weight: arcs[at + 2],
+        },
         active: 1u64 << tail,
-        node: false,
-        tail,
-        head,
-        weight: arcs[at + 2],
+        cap,
+        links,
+        marks,
     };
-    mend_rows(opening, change, packed, marks, starts, work)
+    mending.mend_all(starts, work)
 }

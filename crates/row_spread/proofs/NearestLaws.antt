@@ -5,13 +5,11 @@ use mathlib.Core.Logic.{◌⊎◌, inl, inr, ⊎_elim}
 use mathlib.Core.List.{List}
 use native.Mathlib.Omega.{arith}
 use native.Mathlib.Decide.{ℕ_discrete}
-use native.Mathlib.Nat.{zero-div}
 use lib.Bits.{and_le_l}
 use lib.Count.{count_trailing_zeros}
 use lib.ListN.{get_or}
 use Rattle.rows.specs.Bits.{bit_of}
 use Rattle.rows.proofs.BitLaws.{off, lowest, lowest_small, lowest_rest, lowest_part}
-use Rattle.row_spread.specs.Active.{Nearest}
 
 -- best is active, and has the least entry of the active nodes that are not in rest
 pub record Seen (row : List ℕ) (active best rest : ℕ) : Type 0 where
@@ -56,13 +54,3 @@ module _ (row : List ℕ) where
 
     pub seen_same : get_or row best 0 ≤ get_or row u 0 → Seen row active best (off rest)
     seen_same k = next best S.node S.member (omega arith) k
-
-  pub seen_done : {active best rest : ℕ} → rest ≡ 0 → Seen row active best rest → Nearest row active best
-  seen_done {rest = rest} z S = record {
-    node = S.node;
-    member = S.member;
-    least = λ x e. ⊎_elim (λ b. absurd (none x (rw z at b))) (λ k. k) (S.least x e);
-  }
-    where
-      none : (x : ℕ) → bit_of 0 x ≡ 1 → ⊥
-      none x b = omega (arith, b, zero-div (2 ^ x))

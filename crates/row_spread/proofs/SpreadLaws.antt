@@ -1,17 +1,16 @@
 -- Arcs tried from the active nodes on: an arc whose tail is not active can cut no entry, so with no active node left the row is settled. Assumes nothing.
-use Prim.Native.Nat.{ℕ, ◌+◌, ◌-◌, ◌*◌, ◌%◌, ◌^◌, ◌≤◌, ◌<◌}
+use Prim.Native.Nat.{ℕ, ◌+◌, ◌-◌, ◌*◌, ◌≤◌, ◌<◌}
 use mathlib.Core.Path.{◌≡◌, refl, sym, ap, ◌∙◌, subst}
 use mathlib.Core.Logic.{◌⊎◌, inl, inr}
 use mathlib.Core.List.{List}
 use native.Mathlib.Omega.{arith}
 use native.Mathlib.Decide.{ℕ_discrete, dec_lt}
-use native.Mathlib.Nat.{zero-div}
 use lib.ListN.{length, get_or, set}
 use lib.Seq.{get_or-set_same, get_or-set_other}
 use lib.Bits.{bit_or, bit_xor}
 use mathlib.Core.Bool.{Bool, true, false, true≢false, false≢true}
 use Rattle.rows.specs.Net.{arc_count, tail_in, head_in, weight_in}
-use Rattle.rows.specs.Rows.{total, Tried, ArcTried, same, cut, Settled, Started, Keeps, AwaySame}
+use Rattle.rows.specs.Rows.{total, Tried, ArcTried, same, cut, Started, Keeps, AwaySame}
 use Rattle.rows.proofs.RowLaws.{Fits, falls, keep}
 use Rattle.rows.specs.Bits.{bit_of, alone}
 use Rattle.row_spread.specs.Active.{Still, Tries, idle, fell, Mendable, Added, none, more}
@@ -140,13 +139,6 @@ taken active u {left} hu o (idle q) = idle (rw q (taken_own active u hu o), rw q
   where
     others : (x : ℕ) → bit_of active x ≡ 0 → bit_of (bit_xor active (alone u)) x ≡ 0
     others x b = elim (ℕ_discrete x u) [ yes z ↦ absurd (omega (arith, o, b, ap (bit_of active) z)) | no z ↦ taken_other active u x hu z ∙ b ]
-
-pub waits_done : {cap : ℕ} {xs : List ℕ} {active u k : ℕ} {d : List ℕ} → k ≡ 0 → Waiting cap xs active u k d → Still cap xs active d
-waits_done z W = record { tried = λ j h b. W.tried j h b (λ _. omega arith) }
-
--- with no active node left the row is settled
-pub still_done : {cap : ℕ} {xs : List ℕ} {active : ℕ} {d : List ℕ} → active ≡ 0 → Still cap xs active d → Settled cap xs 0 (arc_count xs) d
-still_done {cap} {xs} {active} z S k l h = S.tried k h (rw z (ap (λ (n : ℕ). n % 2) (zero-div (2 ^ tail_in xs k))))
 
 -- each turn makes this less: a node is taken off, or the sum of the entries falls
 pub turn_less : {d e : List ℕ} (u left r : ℕ) → u < 64 → bit_of left u ≡ 1 → Tries d ((bit_of r u ≡ 0) × ((x : ℕ) → bit_of left x ≡ 0 → bit_of r x ≡ 0)) e

@@ -1,7 +1,8 @@
 // A row mended from a few nodes on, by the arcs that leave them, chained by their tails.
 #![tactic(auto)]
 
-ghost use Rattle.std.specs.Prelude.{◌≡◌, ℕ, ◌+◌, ◌*◌, ◌≤◌, ◌<◌, length, get_or};
+ghost use Rattle.std.specs.Prelude.{◌≡◌, ℕ, ◌+◌, ◌*◌, ◌≤◌, ◌<◌, length, get_or, Option, Some, None, IfSome};
+ghost use lib.Count.{count_trailing_zeros};
 ghost use Rattle.rows.specs.Held.{missing};
 ghost use Rattle.rows.specs.Net.{arc_count, Joins};
 ghost use Rattle.rows.specs.Rows.{Keeps, Settled, AwaySame};
@@ -22,13 +23,10 @@ pub fn chained(arcs: &[u32]) -> [u32; CHAIN_NUMBERS]
         Chained xs result × ((i : ℕ) → 64 + arc_count xs ≤ i → get_or result i 0 ≡ 0) }
 {
     let mut chains = [0u32; CHAIN_NUMBERS];
-    let m = arcs.len() / 3;
-    let mut i = 0;
-    while i < m {
-        let tail = arcs[i * 3] as usize;
-        chains[ROW_LENGTH + i] = chains[tail];
-        chains[tail] = i as u32 + 1;
-        i += 1;
+    for arc in 0..arcs.len() / 3 {
+        let tail = arcs[arc * 3] as usize;
+        chains[ROW_LENGTH + arc] = chains[tail];
+        chains[tail] = arc as u32 + 1;
     }
     chains
 }
@@ -63,6 +61,7 @@ fn spread_node(
 {
     let mut left = active ^ 1u64 << node;
     let mut link = chains[node];
+    // `while`, since no list is walked: where the chain ends stands in `chains`
     while link > 0 {
         let arc = link as usize - 1;
         left = try_adding(arcs, row, arc, left, cap);
@@ -71,19 +70,29 @@ fn spread_node(
     left
 }
 
+// The lowest node of the set.
+fn lowest(set: u64) -> Option<usize>
+    ensures some { IfSome result (λ node. (0 < set) × (node < 64) × (node ≡ count_trailing_zeros 64 set)) }
+    ensures none { result ≡ None → set ≡ 0 }
+{
+    if set == 0 {
+        return None;
+    }
+    Some(set.trailing_zeros() as usize)
+}
+
 // The active node with the least entry.
 fn nearest(row: &[u32], active: u64) -> usize
     requires { (length row.now ≡ 64) × (0 < active) }
     ensures { Nearest row.now active result }
 {
-    let mut best = u64::trailing_zeros(active) as usize;
+    let mut best = active.trailing_zeros() as usize;
     let mut rest = active & (active - 1);
-    while rest != 0 {
-        let node = u64::trailing_zeros(rest) as usize;
+    while let Some(node) = lowest(rest) {
         if row[node] < row[best] {
             best = node;
         }
-        rest = rest & (rest - 1);
+        rest &= rest - 1;
     }
     best
 }
@@ -100,6 +109,7 @@ fn spread_active(arcs: &[u32], chains: &[u32], row: &mut [u32], active: u64, cap
         (Still cap xs active row.old → Settled cap xs 0 (arc_count xs) row.new) }
 {
     let mut left = active;
+    // `while`, since no list is walked: nodes are added as entries are cut
     while left != 0 {
         let node = nearest(row, left);
         left = spread_node(arcs, chains, row, node, left, cap);
@@ -107,7 +117,7 @@ fn spread_active(arcs: &[u32], chains: &[u32], row: &mut [u32], active: u64, cap
 }
 
 // A row that starts at `from`, with the nodes whose arcs are to be tried first, one bit each, and the cap.
-#[derive(Clone, Copy)]
+#[derive(Clone, Copy, Debug, PartialEq, Eq)]
 pub struct Mend {
     pub from: usize,
     pub active: u64,

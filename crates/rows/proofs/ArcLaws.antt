@@ -77,9 +77,6 @@ module _ (xs : List ℕ) (i a b c : ℕ) (room : i * 3 + 2 < length xs) where
   pub set_weight : weight_in (arc_set xs i a b c) i ≡ c
   set_weight = get_or-set_same (set (set xs (i * 3) a) (i * 3 + 1) b) (i * 3 + 2) c 0 (simp length-set (omega arith))
 
-  pub set_long : length (arc_set xs i a b c) ≡ length xs
-  set_long = simp length-set
-
 -- a walk comes to an item at a node
 pub entry_below : (N : Net) (g : ℕ) → Proper N → g < N.nodes + count N → entry_of (graph N) g < N.nodes
 entry_below N g p below = go (ltb g N.nodes) refl

@@ -54,6 +54,10 @@ pub record Proper (N : Net) : Type 0 where
   pub tails : (i : ℕ) → i < count N → tail_at N i < N.nodes
   pub heads : (i : ℕ) → i < count N → head_at N i < N.nodes
 
+-- and at most 512 arcs of three numbers each
+abbrev pub Sized : Net → Type 0
+Sized N = Proper N × (length N.arcs ≤ 1536)
+
 -- the listed arcs join nodes below n
 abbrev pub Joins : ℕ → List ℕ → Type 0
 Joins n xs = (i : ℕ) → i < arc_count xs → (tail_in xs i < n) × (head_in xs i < n)

@@ -3,7 +3,7 @@
 #![tactic(auto)]
 
 // The five numbers in front of a sheet: n, m, start, finish and K of document 01.
-#[derive(Clone, Copy)]
+#[derive(Clone, Copy, Debug, PartialEq, Eq)]
 pub struct Header {
     pub nodes: usize,
     pub arcs: usize,

@@ -3,148 +3,149 @@
 
 #![tactic(auto)]
 
-ghost use Rattle.std.specs.Prelude.{◌≡◌, ◌≤◌, length, leb};
-ghost use Rattle.sheet.specs.Draft.{draft_of};
-ghost use Rattle.sheet.specs.Writer.{header_fault, arc_fault, arcs_fault, marks_fault, services_fault, fault, draft_fault};
-ghost use Rattle.sheet.specs.Sheet.{Sized, required, sheet_of};
+ghost use Rattle.std.specs.Prelude.{◌≡◌, ◌≤◌, ◌&&◌, true, length, leb, OnOk};
+ghost use Rattle.std.specs.List.{fold};
+ghost use Rattle.varint.specs.Refusal.{number_in};
+ghost use Rattle.sheet.specs.Reader.{is_mark, is_service};
+ghost use Rattle.sheet.specs.Writer.{header_fault, arc_fault, arcs_fault, marks_fault, services_fault, size_fault, required_fault, draft_fault, first_of};
+ghost use Rattle.sheet.specs.Sheet.{Sized};
+ghost use Rattle.sheet_faults.specs.Drafted.{drafted};
 
 use sheet::{Header, LIMIT_END, MINUTES_END, SERVICE_END};
+use varint::Refusal;
 use walks::{ARCS, FORBIDDEN, NODES};
 
 const NODES_LEAST: usize = 2;
 
-// The first fault of the five numbers in front, 5 to 8; 0 where there is none.
-fn header_fault(header: Header) -> u32
-    ensures { result ≡ header_fault header }
+// The numbers that are to become a sheet, as they were lent: they may be of any size, and the lists of any length.
+#[derive(Clone, Copy)]
+pub struct Draft<'a> {
+    pub header: Header,
+    pub arcs: &'a [u32],
+    pub marks: &'a [u8],
+    pub services: &'a [u32],
+}
+
+// Judges the five numbers in front.
+#[tactic(auto, unfolding(sheet::specs::Writer::header_fault, sheet::specs::Writer::first_of, sheet::specs::Writer::fault))]
+fn header_fault(header: Header) -> Result<(), Refusal>
+    ensures first_fault { number_in result ≡ header_fault header }
+    ensures bounded { OnOk result ((header.nodes ≤ 64) × (header.arcs ≤ 512)) }
 {
-    if header.nodes < NODES_LEAST {
-        return 5;
-    }
-    if NODES < header.nodes {
-        return 5;
+    if header.nodes < NODES_LEAST || NODES < header.nodes {
+        return Err(Refusal::Nodes);
     }
     if ARCS < header.arcs {
-        return 6;
+        return Err(Refusal::Arcs);
     }
-    if header.nodes <= header.source {
-        return 7;
-    }
-    if header.nodes <= header.target {
-        return 7;
-    }
-    if header.target == header.source {
-        return 7;
+    if header.nodes <= header.source
+        || header.nodes <= header.target
+        || header.target == header.source
+    {
+        return Err(Refusal::Place);
     }
     if LIMIT_END <= header.limit {
-        return 8;
+        return Err(Refusal::Limit);
     }
-    0
+    Ok(())
 }
 
-// The first fault of an arc of a graph of so many nodes, 9 or 10; 0 where there is none.
-fn arc_fault(nodes: u32, tail: u32, head: u32, minutes: u32) -> u32
-    ensures { result ≡ arc_fault nodes tail head minutes }
+// Judges an arc of a graph of so many nodes.
+#[tactic(auto, unfolding(sheet::specs::Writer::arc_fault, sheet::specs::Writer::first_of, sheet::specs::Writer::fault))]
+fn arc_fault(nodes: u32, tail: u32, head: u32, minutes: u32) -> Result<(), Refusal>
+    ensures { number_in result ≡ arc_fault nodes tail head minutes }
 {
-    if nodes <= tail {
-        return 9;
-    }
-    if nodes <= head {
-        return 9;
-    }
-    if head == tail {
-        return 9;
+    if nodes <= tail || nodes <= head || head == tail {
+        return Err(Refusal::ArcEnd);
     }
     if MINUTES_END <= minutes {
-        return 10;
+        return Err(Refusal::Minutes);
     }
-    0
+    Ok(())
 }
 
-// The first fault of the arcs, three numbers each; 0 where there is none.
-fn arcs_fault(nodes: u32, arcs: &[u32]) -> u32
-    ensures { result ≡ arcs_fault nodes arcs.now }
+// Judges the arcs, three numbers each.
+fn arcs_fault(nodes: u32, arcs: &[u32]) -> Result<(), Refusal>
+    ensures { number_in result ≡ arcs_fault nodes arcs.now }
 {
-    let mut at: usize = 0;
-    while at + 2 < arcs.len() {
-        let fault = arc_fault(nodes, arcs[at], arcs[at + 1], arcs[at + 2]);
-        if fault != 0 {
-            return fault;
+    for arc in arcs.chunks_exact(3) {
+        arc_fault(nodes, arc[0], arc[1], arc[2])?;
+    }
+    Ok(())
+}
+
+// Whether each number is a mark. `fold` looks at many at a time.
+fn are_marks(marks: &[u8]) -> bool
+    ensures { result ≡ fold (λ all x. all && is_mark x) true marks.now }
+{
+    marks
+        .iter()
+        .fold(true, |all, &mark| all & (mark <= FORBIDDEN))
+}
+
+// Whether no node's service minutes are too many.
+fn are_services(services: &[u32]) -> bool
+    ensures { result ≡ fold (λ all x. all && is_service x) true services.now }
+{
+    services
+        .iter()
+        .fold(true, |all, &minutes| all & (minutes < SERVICE_END))
+}
+
+impl Draft<'_> {
+    // Judges the lengths of the lists.
+    #[tactic(auto, unfolding(sheet::specs::Writer::size_fault, sheet::specs::Writer::fault))]
+    fn size_fault(&self) -> Result<(), Refusal>
+        requires { (self.now.header.nodes ≤ 64) × (self.now.header.arcs ≤ 512) }
+        ensures first_fault { number_in result ≡ size_fault (drafted self.now) }
+        ensures sized { OnOk result (Sized self.now.header self.now.arcs.now self.now.marks.now) }
+    {
+        let header = self.header;
+        if self.arcs.len() != 3 * header.arcs
+            || self.marks.len() != header.nodes + header.arcs
+            || self.services.len() != header.nodes
+        {
+            return Err(Refusal::Ends);
         }
-        at += 3;
+        Ok(())
     }
-    0
-}
 
-// 11 where a number is no mark, 0 where there is none such.
-fn marks_fault(marks: &[u8]) -> u32
-    ensures { result ≡ marks_fault marks.now }
-{
-    let mut i: usize = 0;
-    while i < marks.len() {
-        if FORBIDDEN < marks[i] {
-            return 11;
+    // Judges the marks and the service minutes.
+    fn numbers_fault(&self) -> Result<(), Refusal>
+        ensures { number_in result ≡ first_of (marks_fault self.now.marks.now) (services_fault self.now.services.now) }
+    {
+        if are_marks(self.marks) && are_services(self.services) {
+            Ok(())
+        } else {
+            Err(Refusal::Mark)
         }
-        i += 1;
     }
-    0
-}
 
-// 11 where a node's service minutes are too many, 0 where there are none such.
-fn services_fault(services: &[u32]) -> u32
-    ensures { result ≡ services_fault services.now }
-{
-    let mut i: usize = 0;
-    while i < services.len() {
-        if SERVICE_END <= services[i] {
-            return 11;
+    // Refused where more than eight items are required.
+    #[tactic(auto, unfolding(sheet::specs::Writer::required_fault, sheet::specs::Writer::fault))]
+    fn required_fault(&self) -> Result<(), Refusal>
+        requires lists_sized { Sized self.now.header self.now.arcs.now self.now.marks.now }
+        requires bounded { (self.now.header.nodes ≤ 64) × (self.now.header.arcs ≤ 512) }
+        ensures { number_in result ≡ required_fault (drafted self.now) }
+    {
+        if sheet_required::few(self.header, self.arcs, self.marks) {
+            Ok(())
+        } else {
+            Err(Refusal::Required)
         }
-        i += 1;
     }
-    0
-}
 
-// 13 where more than eight items are required, else 0.
-fn required_fault(header: Header, arcs: &[u32], marks: &[u8]) -> u32
-    requires { Sized header arcs.now marks.now × (header.nodes ≤ 64) × (header.arcs ≤ 512) }
-    ensures { result ≡ fault 13 (leb (length (required (sheet_of header arcs.now marks.now))) 8) }
-{
-    if sheet_required::few(header, arcs, marks) {
-        return 0;
+    // The first fault in the order of a sheet. The lengths of the lists are asked for behind the header, since only a good one bounds them.
+    #[tactic(auto, using(crate::proofs::FaultLaws::stop, crate::proofs::FaultLaws::go, crate::proofs::FaultLaws::stop_both, crate::proofs::FaultLaws::go_both), unfolding(sheet::specs::Writer::draft_fault))]
+    pub fn fault(&self) -> Result<(), Refusal>
+        ensures { number_in result ≡ draft_fault (drafted self.now) }
+    {
+        header_fault(self.header)?;
+        self.size_fault()?;
+        arcs_fault(self.header.nodes as u32, self.arcs)?;
+        self.numbers_fault()?;
+        self.required_fault()
     }
-    13
-}
-
-// The first fault of a draft in the order of a sheet: 5 to 8, then 3 for a list of another length than the header says, then 9 to 13. The lengths are
-// asked for behind the header, since only a good one bounds them.
-pub fn draft_fault(header: Header, arcs: &[u32], marks: &[u8], services: &[u32]) -> u32
-    ensures { result ≡ draft_fault (draft_of header arcs.now marks.now services.now) }
-{
-    let in_header = header_fault(header);
-    if in_header != 0 {
-        return in_header;
-    }
-    if arcs.len() != 3 * header.arcs {
-        return 3;
-    }
-    if marks.len() != header.nodes + header.arcs {
-        return 3;
-    }
-    if services.len() != header.nodes {
-        return 3;
-    }
-    let in_arcs = arcs_fault(header.nodes as u32, arcs);
-    if in_arcs != 0 {
-        return in_arcs;
-    }
-    let in_marks = marks_fault(marks);
-    if in_marks != 0 {
-        return in_marks;
-    }
-    let in_services = services_fault(services);
-    if in_services != 0 {
-        return in_services;
-    }
-    required_fault(header, arcs, marks)
 }
 
 // Whether a slice has room for so many bytes.

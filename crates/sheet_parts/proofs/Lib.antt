@@ -1,2 +1,2 @@
 pub mod SectionLaws
-pub mod HeaderLaws
+pub mod TakeLaws

@@ -1,11 +1,11 @@
 -- Laws of the section of arcs: three numbers are stored for each. Assumes nothing.
 use Prim.Native.Nat.{ℕ, ◌+◌, ◌*◌, ◌≤◌, ◌<◌}
-use mathlib.Core.Path.{◌≡◌, refl, ap, ◌∙◌}
+use mathlib.Core.Path.{◌≡◌, refl, ◌∙◌}
 use mathlib.Core.List.{List, [], ◌∷◌, ◌++◌, append_assoc}
 use native.Mathlib.Omega.{arith}
 use lib.ListN.{length, set, length-append}
 use Rattle.lists.specs.Lists.{front}
-use Rattle.lists.proofs.FrontLaws.{length_front, push_at}
+use Rattle.lists.proofs.FrontLaws.{push_at}
 use Rattle.varint.specs.Varint.{Read}
 use Rattle.numbers.proofs.SeveralLaws.{Filling}
 use Rattle.walks.specs.Graph.{Arc}
@@ -18,9 +18,6 @@ flat_none = refl
 
 -- the section of arcs, by what it stores
 module _ {m : ℕ} {bs old : List ℕ} {f : List ℕ → Read Arc} {j : ℕ} {rest out : List ℕ} (w : Filling f flat m bs old j rest out) (room : 3 * m ≤ length old) where
-  pub arcs_kept : length out ≡ length old
-  arcs_kept = ap length w.holds ∙ length_front (flat w.way.xs) old (omega (arith, length_flat w.way.xs, w.way.size, w.way.few))
-
   pub arc_stored :
       (t h c : ℕ) → j < m
       → set (set (set out (j * 3) t) (j * 3 + 1) h) (j * 3 + 2) c

@@ -6,12 +6,12 @@ use native.Mathlib.Omega.{arith}
 use lib.ListN.{length, take, drop}
 use lib.Seq.{take_at}
 use Rattle.sheet.specs.declared.Header.{Header}
-use Rattle.sheet_reader.specs.Loaded.{ReadAs, LoadedPage, PageAs}
-use Rattle.sheet_reader.specs.declared.SheetRead.{SheetRead}
-use Rattle.sheet_reader.specs.declared.SheetRead.TheVariants.{Got, Refused}
+use Rattle.std.specs.Prelude.{Result, Ok, Err, IfOk}
+use Rattle.varint.specs.declared.refusal.Refusal.{Refusal}
+use Rattle.sheet_reader.specs.Loaded.{Loaded, LoadedPage}
 use Rattle.lists.proofs.FrontLaws.{front_rest}
 use Rattle.lists.specs.Lists.{front}
-use Rattle.sheet_reader.proofs.TakenLaws.{Reads, taken_content, Left, taken_begun}
+use Rattle.sheet_reader.proofs.TakenLaws.{Left, taken_begun}
 use Rattle.sheet_required.specs.Whole.{Whole}
 use Rattle.sheet_reader.specs.Answer.{answered, arcs_begun, marks_begun, services_begun, arcs_left}
 use Rattle.sheet_services.specs.Services.{Servable}
@@ -66,27 +66,27 @@ record Said (sheet : List ℕ) (h : Header) : Type 0 where
   took : page sheet ≡ got on []
   header : h ≡ header_of (sheet_on on)
 
-said : (sheet : List ℕ) (h : Header) → Got h ≡ answered (taken sheet) → Said sheet h
+said : (sheet : List ℕ) (h : Header) → answered (taken sheet) ≡ Ok h → Said sheet h
 unfolding answered
 said sheet h q = go (taken sheet) refl q
   where
-    took_is : (k : Header) → Got h ≡ Got k → h ≡ k
+    took_is : (k : Header) → ◌≡◌ {A = Result Header ℕ} (Ok k) (Ok h) → h ≡ k
     took_is k e = cc
 
-    go : (r : Read Sheet) → taken sheet ≡ r → Got h ≡ answered r → Said sheet h
+    go : (r : Read Sheet) → taken sheet ≡ r → answered r ≡ Ok h → Said sheet h
     go (refuse w) p z = absurd (let y : ◌≡◌ {A = ℕ} 0 1 = cc in omega arith)
     go (got S rest) p z = let o = page_of sheet S rest p in record { on = o.0; took = o.1; header = took_is (header_of S) z ∙ ap header_of (sym o.2) }
 
 -- a read that refused the sheet
-unsaid : (sheet : List ℕ) (w : ℕ) → Refused w ≡ answered (taken sheet) → page sheet ≡ refuse w
-unfolding answered taken meant after
+pub unsaid : (sheet : List ℕ) (w : ℕ) → taken sheet ≡ refuse w → page sheet ≡ refuse w
+unfolding taken meant after
 unsaid sheet w q = go (page sheet) q
   where
-    go : (r : Read Page) → Refused w ≡ answered (after r meant) → r ≡ refuse w
+    go : (r : Read Page) → after r meant ≡ refuse w → r ≡ refuse w
     go (refuse v) z = let y : w ≡ v = cc in rw y
     go (got P rest) z = absurd (let y : ◌≡◌ {A = ℕ} 0 1 = cc in omega arith)
 
-unsaid_taken : (sheet : List ℕ) (w : ℕ) → page sheet ≡ refuse w → taken sheet ≡ refuse w
+pub unsaid_taken : (sheet : List ℕ) (w : ℕ) → page sheet ≡ refuse w → taken sheet ≡ refuse w
 unfolding taken after
 unsaid_taken sheet w e = rw e
 
@@ -181,15 +181,8 @@ module _ (s : List ℕ) (P : Page) (t : page s ≡ got P []) (h : Header) (hs : 
         count = rw z service_count;
       }
 
--- what a read of the content says of the sheet
-pub content_read : (s : List ℕ) (k : ℕ) (cs old₁ old₂ old₃ : List ℕ) → k ≡ lead s → cs ≡ content s → {r : SheetRead} {arcs marks services : List ℕ}
-    → Reads k cs r arcs old₁ marks old₂ services old₃
-    → (r ≡ answered (taken s))
-    × ((arcs ≡ front (flat (arcs_begun (content s))) old₁) × ((marks ≡ front (marks_begun (content s)) old₂) × (services ≡ front (services_begun (lead s) (content s)) old₃)))
-content_read s k cs old₁ old₂ old₃ e f w = let x = rw (e, f) at w in (x.0 ∙ ap answered (sym (taken_content s)), x.1)
-
 -- where the sheet was taken: what is asked for before the service minutes are added, and what the arcs are then
-module _ (s : List ℕ) (h : Header) (q : Got h ≡ answered (taken s)) where
+module _ (s : List ℕ) (h : Header) (q : answered (taken s) ≡ Ok h) where
   pub sizes_held : (h.nodes ≤ 64) × (3 * h.arcs ≤ 1536)
   sizes_held =
       let o = said s h q in
@@ -211,25 +204,26 @@ module _ (s : List ℕ) (h : Header) (q : Got h ≡ answered (taken s)) where
         ∙ ap (λ (r : Read Sheet). front (flat (arcs_left r (arcs_begun (content s)))) old₁) (sym (page_taken s o.on o.took))
 
 -- a refused sheet leaves the arcs as they were read
-pub none_served : (s : List ℕ) (w : ℕ) (old arcs : List ℕ) → Refused w ≡ answered (taken s) → arcs ≡ front (flat (arcs_begun (content s))) old
+pub none_served : (s : List ℕ) (w : ℕ) (old arcs : List ℕ) → taken s ≡ refuse w → arcs ≡ front (flat (arcs_begun (content s))) old
     → arcs ≡ front (flat (arcs_left (taken s) (arcs_begun (content s)))) old
 unfolding arcs_left
-none_served s w old arcs q a = a ∙ ap (λ (r : Read Sheet). front (flat (arcs_left r (arcs_begun (content s)))) old) (sym (unsaid_taken s w (unsaid s w q)))
+none_served s w old arcs q a = a ∙ ap (λ (r : Read Sheet). front (flat (arcs_left r (arcs_begun (content s)))) old) (sym q)
 
--- what a read gives and leaves, as its callers meet it
-pub page_as : (s c d e arcs marks services : List ℕ) (r : SheetRead) → r ≡ answered (taken s) → arcs ≡ front (flat (arcs_left (taken s) (arcs_begun (content s)))) c
-    → marks ≡ front (marks_begun (content s)) d → services ≡ front (services_begun (lead s) (content s)) e → PageAs s r arcs marks services
+-- what a read leaves, as its callers meet it
+pub page_loaded : (s c d e arcs marks services : List ℕ) (h : Header) → answered (taken s) ≡ Ok h → arcs ≡ front (flat (arcs_left (taken s) (arcs_begun (content s)))) c
+    → marks ≡ front (marks_begun (content s)) d → services ≡ front (services_begun (lead s) (content s)) e
+    → LoadedPage s h (take (3 * h.arcs) arcs) (take (h.nodes + h.arcs) marks) (take h.nodes services)
 unfolding arcs_left
-page_as s c d e arcs marks services r q a m v = record {
-  took =
-      λ h z. let o = said s h (sym z ∙ q) in
-      stands s o.on o.took h o.header c d e arcs marks services
-      (a ∙ ap (λ (r : Read Sheet). front (flat (arcs_left r (arcs_begun (content s)))) c) (page_taken s o.on o.took)) m v;
-  refused = λ w z. unsaid s w (sym z ∙ q);
-}
+page_loaded s c d e arcs marks services h q a m v =
+    let o = said s h q in
+    stands s o.on o.took h o.header c d e arcs marks services
+    (a ∙ ap (λ (r : Read Sheet). front (flat (arcs_left r (arcs_begun (content s)))) c) (page_taken s o.on o.took)) m v
 
-pub read_as : {s arcs marks services : List ℕ} {r : SheetRead} → PageAs s r arcs marks services → ReadAs s r arcs marks
-read_as {s} p = record {
-  took = λ h z. let l = p.took h z in record { makes = page_taken s l.on l.took ∙ ap (λ (S : Sheet). got S []) l.means; whole = l.whole };
-  refused = λ w z. unsaid_taken s w (p.refused w z);
-}
+pub loaded : {s arcs marks services : List ℕ} {h : Header} → LoadedPage s h arcs marks services → Loaded s h arcs marks
+loaded {s} l = record { makes = page_taken s l.on l.took ∙ ap (λ (S : Sheet). got S []) l.means; whole = l.whole }
+
+pub all_loaded : (s arcs marks services : List ℕ) (r : Result Header Refusal)
+    → IfOk r (λ h. LoadedPage s h (take (3 * h.arcs) arcs) (take (h.nodes + h.arcs) marks) (take h.nodes services))
+    → IfOk r (λ h. Loaded s h (take (3 * h.arcs) arcs) (take (h.nodes + h.arcs) marks))
+all_loaded s arcs marks services (Ok h) p = loaded p
+all_loaded s arcs marks services (Err why) p = p

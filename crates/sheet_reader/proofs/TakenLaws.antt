@@ -1,12 +1,13 @@
 -- Laws of the whole sheet: what its parts say of it, and what a read leaves where it was taken. Assumes nothing.
-use Prim.Native.Nat.{ℕ, zero, suc, ◌+◌, ◌-◌, ◌*◌, ◌≤◌, ◌<◌}
+use Prim.Native.Nat.{ℕ, zero, suc, ◌+◌, ◌*◌}
 use mathlib.Core.Path.{◌≡◌, refl, ap, sym, ◌∙◌, subst}
-use mathlib.Core.List.{List, []}
+use mathlib.Core.List.{List, [], ◌∷◌}
 use native.Mathlib.Omega.{arith}
-use lib.ListN.{length, drop, take, length-drop, drop_of_length-le}
-use lib.Seq.{drop-cons, take_at, take_all}
+use lib.ListN.{length, drop, take}
+use lib.Seq.{take_at}
 use mathlib.Core.Bool.{Bool, true, false}
 use lib.Dec.{leb}
+use Rattle.std.specs.Prelude.{Ok}
 use Rattle.lists.specs.Lists.{front, pick}
 use Rattle.varint.proofs.VarintLaws.{after_got, got_both}
 use Rattle.varint.specs.Varint.{Read, got, refuse, after, several}
@@ -21,47 +22,44 @@ use Rattle.sheet.specs.Page.{Page, sheet_on}
 use Rattle.sheet.specs.Sheet.{Sheet, required, sheet_of, header_of}
 use Rattle.sheet.specs.Reader.{read_arc, read_mark, read_arcs, read_marks, read_header, read_sheet, lead, content, read_service, some_service, read_services, read_page, complete, page, meant, taken}
 use Rattle.sheet_services.specs.Services.{services_in}
-use Rattle.sheet_reader.specs.declared.SheetRead.{SheetRead}
-use Rattle.sheet_reader.specs.declared.SheetRead.TheVariants.{Got, Refused}
-use Rattle.numbers.specs.Answer.{section_of}
 use Rattle.numbers.specs.Begun.{ahead, begun}
-use Rattle.numbers.specs.declared.SectionRead.{SectionRead}
-use Rattle.numbers.specs.declared.SectionRead.TheVariants.{Got as At, Refused as Not}
 use Rattle.numbers.proofs.SeveralLaws.{several_read}
-use Rattle.sheet_reader.specs.Answer.{answered, read_behind, read_content, arcs_behind, marks_behind, sheet_behind, sheet_in, services_behind, arcs_begun, marks_begun, services_begun}
+use Rattle.sheet_reader.specs.Answer.{answered, read_behind, read_content, arcs_behind, marks_behind, sheet_behind, services_behind, arcs_begun, marks_begun, services_begun}
 
 -- the arcs, then the marks
 module _ (h : Header) (bs : List ℕ) where
-  pub arcs_refused : {e : ℕ} → refuse e ≡ several (read_arc h.nodes) h.arcs bs → (refuse e ≡ read_arcs h bs) × (marks_behind h bs ≡ [])
+  pub arcs_refused : {e : ℕ} → several (read_arc h.nodes) h.arcs bs ≡ refuse e → (read_arcs h bs ≡ refuse e) × (marks_behind h bs ≡ [])
   unfolding after read_arcs marks_behind ahead
-  arcs_refused q = (rw (← q), rw (← q))
+  arcs_refused q = (rw q, rw q)
 
-  module _ {xs : List Arc} {rest : List ℕ} (qa : got xs rest ≡ several (read_arc h.nodes) h.arcs bs) where
-    arc_count : length xs ≡ h.arcs
-    arc_count = (several_read (read_arc h.nodes) h.arcs bs xs rest qa).0
+  module _ {rest : List ℕ} (qa : several (read_arc h.nodes) h.arcs bs ≡ got (begun (read_arc h.nodes) h.arcs bs) rest) where
+    arc_count : length (begun (read_arc h.nodes) h.arcs bs) ≡ h.arcs
+    arc_count = (several_read (read_arc h.nodes) h.arcs bs (begun (read_arc h.nodes) h.arcs bs) rest (sym qa)).0
 
     pub marks_left : marks_behind h bs ≡ begun read_mark (h.nodes + h.arcs) rest
     unfolding marks_behind ahead
-    marks_left = rw (← qa)
+    marks_left = rw qa
 
-    marked : (s : List ℕ) (r : SectionRead) → section_of s (begun read_mark (h.nodes + h.arcs) rest) r ≡ several read_mark (h.nodes + h.arcs) rest
-        → sheet_in s (sheet_behind h bs) r ≡ after (several read_mark (h.nodes + h.arcs) rest) (λ ms rest. got (record { graph = record { nodes = h.nodes; arcs = xs }; source = h.source; target = h.target; limit = h.limit; marks = ms }) rest)
-    unfolding after arcs_behind
-    marked s (At next) q = rw (← q, marks_left, (several_read (read_arc h.nodes) h.arcs bs xs rest qa).1)
-    marked s (Not e) q = rw (← q)
+    marks_read : read_arcs h bs ≡ after (several read_mark (h.nodes + h.arcs) rest) (λ ms end. got (record { graph = record { nodes = h.nodes; arcs = arcs_behind h bs }; source = h.source; target = h.target; limit = h.limit; marks = ms }) end)
+    unfolding after read_arcs read_marks arcs_behind
+    marks_read = rw (qa, arc_count)
 
-    pub lists_read : (s : List ℕ) (r : SectionRead) → section_of s (begun read_mark (h.nodes + h.arcs) rest) r ≡ several read_mark (h.nodes + h.arcs) rest
-        → sheet_in s (sheet_behind h bs) r ≡ read_arcs h bs
-    unfolding after read_arcs read_marks
-    lists_read s r q = marked s r q ∙ sym (rw (← qa, arc_count))
+    pub marks_refused : {e : ℕ} → several read_mark (h.nodes + h.arcs) rest ≡ refuse e → read_arcs h bs ≡ refuse e
+    unfolding after
+    marks_refused q = marks_read ∙ rw q
+
+    pub lists_read : {end : List ℕ} → several read_mark (h.nodes + h.arcs) rest ≡ got (begun read_mark (h.nodes + h.arcs) rest) end
+        → read_arcs h bs ≡ got (sheet_behind h bs) end
+    unfolding after
+    lists_read q = marks_read ∙ rw (q, marks_left)
 
 -- as many arcs and marks as the header says
-lists_count : (h : Header) (bs : List ℕ) {S : Sheet} {end : List ℕ} → got S end ≡ read_arcs h bs
+lists_count : (h : Header) (bs : List ℕ) {S : Sheet} {end : List ℕ} → read_arcs h bs ≡ got S end
     → (length S.graph.arcs ≡ h.arcs) × (length S.marks ≡ h.nodes + h.arcs)
 unfolding read_arcs read_marks
 lists_count h bs {S} {end} e =
     let n = h.nodes in
-    let f = after_got (several (read_arc n) h.arcs bs) (read_marks h) S end (sym e) in
+    let f = after_got (several (read_arc n) h.arcs bs) (read_marks h) S end e in
     let xs : List Arc = f.0 in
     let make : List ℕ → Sheet = λ ms. record { graph = record { nodes = n; arcs = xs }; source = h.source; target = h.target; limit = h.limit; marks = ms } in
     let g = after_got (several read_mark (n + length xs) f.1) (λ ms rest. got (make ms) rest) S end f.3 in
@@ -71,18 +69,18 @@ lists_count h bs {S} {end} e =
 
 -- what stands behind the header
 module _ (k : ℕ) (h : Header) (bs : List ℕ) where
-  pub lists_refused : {e : ℕ} → refuse e ≡ read_arcs h bs → (Refused e ≡ answered (read_behind k h bs)) × (services_behind k h bs ≡ [])
-  unfolding answered after read_behind services_behind ahead
-  lists_refused q = (rw (← q), rw (← q))
+  pub lists_refused : {e : ℕ} → read_arcs h bs ≡ refuse e → (read_behind k h bs ≡ refuse e) × (services_behind k h bs ≡ [])
+  unfolding after read_behind services_behind ahead
+  lists_refused q = (rw q, rw q)
 
-  module _ {end : List ℕ} (q : got (sheet_behind h bs) end ≡ read_arcs h bs) where
+  module _ {end : List ℕ} (q : read_arcs h bs ≡ got (sheet_behind h bs) end) where
     pub services_left : services_behind k h bs ≡ services_in k h.nodes end
     unfolding services_behind ahead
-    services_left = rw (← q)
+    services_left = rw q
 
-    pub services_refused : {e : ℕ} → refuse e ≡ read_services k (sheet_behind h bs) end → Refused e ≡ answered (read_behind k h bs)
-    unfolding answered after read_behind
-    services_refused z = rw (← q, ← z)
+    pub services_refused : {e : ℕ} → read_services k (sheet_behind h bs) end ≡ refuse e → read_behind k h bs ≡ refuse e
+    unfolding after read_behind
+    services_refused z = rw (q, z)
 
     -- the required items of the sheet that stands in the arrays
     pub count_held :
@@ -97,57 +95,53 @@ module _ (k : ℕ) (h : Header) (bs : List ℕ) where
         let w : sheet_of h (take (3 * h.arcs) a) (take (h.nodes + h.arcs) b) ≡ sheet_behind h bs = rw (x, y, arcs_flat xs) in
         e ∙ ap (λ (S : Sheet). leb (length (required S)) 8) w
 
-    module _ {ss left : List ℕ} (qs : got (record { says = sheet_behind h bs; services = ss }) left ≡ read_services k (sheet_behind h bs) end) where
+    module _ {ss left : List ℕ} (qs : read_services k (sheet_behind h bs) end ≡ got (record { says = sheet_behind h bs; services = ss }) left) where
       abbrev here : Page
       here = record { says = sheet_behind h bs; services = ss }
 
       all_read : read_behind k h bs ≡ after (complete here left) meant
       unfolding after read_behind
-      all_read = rw (← q, ← qs)
+      all_read = rw (q, qs)
 
-      pub bytes_left : (s : List ℕ) (at : ℕ) → left ≡ drop at s → at < length s → Refused 12 ≡ answered (read_behind k h bs)
-      unfolding complete answered after
-      bytes_left s at e l =
-          let z : after (complete here left) meant ≡ refuse 12 = rw (e, drop-cons s at 0 l) in
-          sym (ap answered (all_read ∙ z))
+      left_over : (left : List ℕ) → (length left ≡ 0 → ⊥) → after (complete here left) meant ≡ refuse 12
+      unfolding complete after
+      left_over [] n = absurd (n refl)
+      left_over (b ∷ bs) n = refl
 
-      module _ (s : List ℕ) (at : ℕ) (e : left ≡ drop at s) (l : length s ≤ at) where
+      pub bytes_left : (length left ≡ 0 → ⊥) → read_behind k h bs ≡ refuse 12
+      bytes_left n = all_read ∙ left_over left n
+
+      none_left : (left : List ℕ) → length left ≡ 0 → left ≡ []
+      none_left [] e = refl
+      none_left (b ∷ bs) e = absurd (omega (arith, e))
+
+      module _ (e : length left ≡ 0) where
         judged_whole : {b : Bool} → b ≡ leb (length (required (sheet_behind h bs))) 8 → read_behind k h bs ≡ after (pick b (got here []) (refuse 13)) meant
         unfolding complete
-        judged_whole m = all_read ∙ rw (e, drop_of_length-le s l, required_served here, ← m)
+        judged_whole m = all_read ∙ rw (none_left left e, required_served here, ← m)
 
-        pub too_many : false ≡ leb (length (required (sheet_behind h bs))) 8 → Refused 13 ≡ answered (read_behind k h bs)
-        unfolding answered after
-        too_many m = sym (ap answered (judged_whole m))
+        pub too_many : false ≡ leb (length (required (sheet_behind h bs))) 8 → read_behind k h bs ≡ refuse 13
+        unfolding after
+        too_many m = judged_whole m
 
-        pub all_taken : true ≡ leb (length (required (sheet_behind h bs))) 8 → Got h ≡ answered (read_behind k h bs)
+        pub all_taken : true ≡ leb (length (required (sheet_behind h bs))) 8 → answered (read_behind k h bs) ≡ Ok h
         unfolding answered header_of after meant sheet_on
         all_taken m =
             let z : header_of (sheet_on here) ≡ h = rw (served_count ss (arcs_behind h bs), (lists_count h bs q).0) in
-            sym (ap answered (judged_whole m) ∙ ap Got z)
+            ap answered (judged_whole m) ∙ ap Ok z
 
--- what a read of a content gives and leaves in the arrays
-abbrev pub Reads : ℕ → List ℕ → SheetRead → (arcs old₁ marks old₂ services old₃ : List ℕ) → Type 0
-Reads k cs r arcs old₁ marks old₂ services old₃ =
-    (r ≡ answered (read_content k cs))
-    × ((arcs ≡ front (flat (arcs_begun cs)) old₁) × ((marks ≡ front (marks_begun cs) old₂) × (services ≡ front (services_begun k cs) old₃)))
-
-module _ (k : ℕ) (cs old₁ old₂ old₃ : List ℕ) where
-  pub header_refused : {e : ℕ} → refuse e ≡ read_header cs → Reads k cs (Refused e) old₁ old₁ old₂ old₂ old₃ old₃
-  unfolding answered after read_content arcs_begun marks_begun services_begun ahead flat
-  header_refused q = (rw (← q), (rw (← q), (rw (← q), rw (← q))))
-
-  -- what was read behind the header is the whole
-  pub header_read :
-      {h : Header} {bs : List ℕ} {r : SheetRead} {a b c : List ℕ} → got h bs ≡ read_header cs → r ≡ answered (read_behind k h bs)
-      → a ≡ front (flat (arcs_behind h bs)) old₁ → b ≡ front (marks_behind h bs) old₂ → c ≡ front (services_behind k h bs) old₃
-      → Reads k cs r a old₁ b old₂ c old₃
+-- what a read of a content gives and leaves, by its header
+module _ (k : ℕ) (cs : List ℕ) where
+  pub header_refused : {e : ℕ} → read_header cs ≡ refuse e
+      → (read_content k cs ≡ refuse e) × ((arcs_begun cs ≡ []) × ((marks_begun cs ≡ []) × (services_begun k cs ≡ [])))
   unfolding after read_content arcs_begun marks_begun services_begun ahead
-  header_read q x y z v = (rw (← q) x, (rw (← q) y, (rw (← q) z, rw (← q) v)))
+  header_refused q = (rw q, (rw q, (rw q, rw q)))
 
--- the part of a list from a position to its end
-pub part_all : (s : List ℕ) (at : ℕ) → take (length s - at) (drop at s) ≡ drop at s
-part_all s at = take_all (length s - at) (drop at s) (rw length-drop (omega arith))
+  pub header_read : {h : Header} {bs : List ℕ} → read_header cs ≡ got h bs
+      → (read_content k cs ≡ read_behind k h bs)
+      × ((arcs_begun cs ≡ arcs_behind h bs) × ((marks_begun cs ≡ marks_behind h bs) × (services_begun k cs ≡ services_behind k h bs)))
+  unfolding after read_content arcs_begun marks_begun services_begun ahead
+  header_read q = (rw q, (rw q, (rw q, rw q)))
 
 -- a sheet is taken as its content is read
 after_behind : (k : ℕ) (r : Read Header) → after (after (after (after r read_arcs) (read_services k)) complete) meant ≡ after r (read_behind k)
@@ -158,6 +152,9 @@ after_behind k (refuse e) = refl
 pub taken_content : (s : List ℕ) → taken s ≡ read_content (lead s) (content s)
 unfolding taken page read_page read_sheet read_content
 taken_content s = after_behind (lead s) (read_header (content s))
+
+pub content_taken : (s : List ℕ) {k : ℕ} {cs : List ℕ} → lead s ≡ k → cs ≡ content s → read_content k cs ≡ taken s
+content_taken s e f = rw (← e, f) (sym (taken_content s))
 
 -- a content that says a sheet: the arcs and marks that a read leaves are the sheet's, and what is read behind it is behind them
 record Begun (k : ℕ) (cs : List ℕ) (S : Sheet) (mid : List ℕ) : Type 0 where

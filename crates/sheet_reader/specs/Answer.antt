@@ -1,21 +1,17 @@
--- What the reader's answer stands for in document 01, and what a read leaves in the arrays that it is lent.
-use Rattle.std.specs.Prelude.{ℕ, ◌+◌, List, drop}
+-- What the reader's answer stands for, and what a read leaves in the arrays that it is lent.
+use Rattle.std.specs.Prelude.{ℕ, ◌+◌, List, Result, Ok, Err}
 use Rattle.varint.specs.Varint.{Read, got, refuse, after, several}
 use Rattle.walks.specs.Graph.{Arc}
 use Rattle.sheet.specs.Sheet.{Sheet, header_of}
 use Rattle.sheet.specs.Reader.{read_arc, read_mark, read_header, read_arcs, read_services, complete, meant}
 use Rattle.sheet.specs.declared.Header.{Header}
 use Rattle.numbers.specs.Begun.{ahead, begun}
-use Rattle.numbers.specs.declared.SectionRead.{SectionRead}
-use Rattle.numbers.specs.declared.SectionRead.TheVariants.{Got as At, Refused as Not}
 use Rattle.sheet_services.specs.Services.{services_in}
-use Rattle.sheet_reader.specs.declared.SheetRead.{SheetRead}
-use Rattle.sheet_reader.specs.declared.SheetRead.TheVariants.{Got, Refused}
 
 -- the whole sheet: its five numbers, or the refusal
-unfoldable pub answered : Read Sheet → SheetRead
-answered (got S rest) = Got (header_of S)
-answered (refuse e) = Refused e
+unfoldable pub answered : Read Sheet → Result Header ℕ
+answered (got S rest) = Ok (header_of S)
+answered (refuse e) = Err e
 
 -- what is read behind a header, and all of a content, where k numbers stand before it
 unfoldable pub read_behind : ℕ → Header → List ℕ → Read Sheet
@@ -32,14 +28,10 @@ arcs_behind h bs = begun (read_arc h.nodes) h.arcs bs
 unfoldable pub marks_behind : Header → List ℕ → List ℕ
 marks_behind h bs = ahead (several (read_arc h.nodes) h.arcs bs) (λ xs rest. begun read_mark (h.nodes + h.arcs) rest)
 
--- the sheet that these arcs and marks make; and where they are read, with the bytes after them, or the refusal
+-- the sheet that these arcs and marks make
 abbrev pub sheet_behind : Header → List ℕ → Sheet
 sheet_behind h bs =
     record { graph = record { nodes = h.nodes; arcs = arcs_behind h bs }; source = h.source; target = h.target; limit = h.limit; marks = marks_behind h bs }
-
-abbrev pub sheet_in : List ℕ → Sheet → SectionRead → Read Sheet
-sheet_in s S (At next) = got S (drop next s)
-sheet_in s S (Not e) = refuse e
 
 unfoldable pub services_behind : ℕ → Header → List ℕ → List ℕ
 services_behind k h bs = ahead (read_arcs h bs) (λ S rest. services_in k h.nodes rest)

@@ -1,18 +1,22 @@
-// The sheet's reader (document 01, 'Sheet and slip', refusals 3 to 13; document 02, request 2.7).
+// The sheet's reader (docs/FORMATS.md, 'The sheet' and 'What is refused').
 
 #![tactic(auto)]
 
-ghost use Rattle.std.specs.Prelude.{◌≡◌, ◌+◌, ◌*◌, ◌≤◌, length, take, leb};
+ghost use Rattle.std.specs.Prelude.{◌≡◌, ◌+◌, ◌*◌, ◌≤◌, length, take, leb, Ok, IfOk, IfErr, OnOk};
 ghost use Rattle.lists.specs.Lists.{front};
+ghost use Rattle.varint.specs.Varint.{got, refuse};
+ghost use Rattle.varint.specs.Refusal.{number_of};
 ghost use Rattle.walks.specs.Flat.{flat};
 ghost use Rattle.sheet.specs.Sheet.{required, sheet_of};
-ghost use Rattle.sheet.specs.Reader.{read_arcs, lead, content, taken};
-ghost use Rattle.sheet_reader.specs.Loaded.{ReadAs, PageAs};
-ghost use Rattle.sheet_reader.specs.Answer.{answered, read_behind, read_content, arcs_behind, marks_behind, sheet_behind, sheet_in, services_behind, arcs_begun, marks_begun, services_begun, arcs_left};
+ghost use Rattle.sheet.specs.Reader.{read_arcs, lead, content, page, taken};
+ghost use Rattle.sheet_services.specs.Services.{leading};
+ghost use Rattle.sheet_reader.specs.Loaded.{Loaded, LoadedPage};
+ghost use Rattle.sheet_reader.specs.Answer.{answered, read_behind, read_content, arcs_behind, marks_behind, sheet_behind, services_behind, arcs_begun, marks_begun, services_begun, arcs_left};
 
-use numbers::SectionRead;
+use numbers::section;
 use sheet::Header;
-use sheet_parts::HeaderRead;
+use sheet_values::Marks;
+use varint::{Bytes, Refusal};
 use walks::NODES;
 
 // Whether at most eight items are required; the arcs' numbers and the marks stand in front.
@@ -26,126 +30,107 @@ fn few_required(header: Header, arcs: &[u32], marks: &[u8]) -> bool
     sheet_required::few(header, &arcs[..numbers], &marks[..items])
 }
 
-// A sheet that was taken, by the five numbers in front of it, or the refusal, 3 to 13.
-#[derive(Clone, Copy)]
-pub enum SheetRead {
-    Got(Header),
-    Refused(u32),
-}
-
-// Reads the arcs and the marks of a sheet whose header was read: `section` is the part of the sheet that starts at the limit's end.
-fn read_lists(header: Header, section: &[u8], arcs: &mut [u32], marks: &mut [u8]) -> SectionRead
+// Takes the arcs and the marks of a sheet whose header was read.
+fn take_lists(
+    bytes: &mut Bytes,
+    header: Header,
+    arcs: &mut [u32],
+    marks: &mut [u8],
+) -> Result<(), Refusal>
     requires { (header.nodes ≤ 64) × (header.arcs ≤ 512) × (1536 ≤ length arcs.old) × (576 ≤ length marks.old) }
-    ensures lists_told { let s = section.now in sheet_in s (sheet_behind header s) result ≡ read_arcs header s }
-    ensures arcs_in_front { arcs.new ≡ front (flat (arcs_behind header section.now)) arcs.old }
-    ensures marks_in_front { marks.new ≡ front (marks_behind header section.now) marks.old }
+    ensures got { let bs = bytes.old.rest.now in OnOk result (read_arcs header bs ≡ got (sheet_behind header bs) bytes.new.rest.now) }
+    ensures refused { IfErr result (λ why. read_arcs header bytes.old.rest.now ≡ refuse (number_of why)) }
+    ensures arcs_in_front { arcs.new ≡ front (flat (arcs_behind header bytes.old.rest.now)) arcs.old }
+    ensures marks_in_front { marks.new ≡ front (marks_behind header bytes.old.rest.now) marks.old }
 {
-    let nodes = header.nodes;
-    let count = header.arcs;
-    match sheet_parts::arcs_in(section, nodes as u32, count, arcs) {
-        SectionRead::Got(end) => sheet_values::marks_in(section, end, nodes + count, marks),
-        SectionRead::Refused(why) => SectionRead::Refused(why),
-    }
+    sheet_parts::take_arcs(bytes, header.nodes as u32, header.arcs, arcs)?;
+    section::read_all(&Marks, bytes, &mut marks[..header.nodes + header.arcs])?;
+    Ok(())
 }
 
-// Reads what stands behind the header, arcs, marks and service minutes, and judges the whole; `leading` numbers stand before the header.
+// Reads what stands behind the header, arcs, marks and service minutes, and judges the whole. `section` is the part of the sheet that starts at the
+// limit's end.
 fn read_behind(
-    leading: usize,
+    leads: bool,
     header: Header,
     section: &[u8],
     arcs: &mut [u32],
     marks: &mut [u8],
     services: &mut [u32],
-) -> SheetRead
+) -> Result<(), Refusal>
     requires { (header.nodes ≤ 64) × (header.arcs ≤ 512) × (1536 ≤ length arcs.old) × (576 ≤ length marks.old) × (64 ≤ length services.old) }
-    ensures rest_told { result ≡ answered (read_behind leading header section.now) }
+    ensures got { OnOk result (answered (read_behind (leading leads) header section.now) ≡ Ok header) }
+    ensures refused { IfErr result (λ why. read_behind (leading leads) header section.now ≡ refuse (number_of why)) }
     ensures arcs_in_front { arcs.new ≡ front (flat (arcs_behind header section.now)) arcs.old }
     ensures marks_in_front { marks.new ≡ front (marks_behind header section.now) marks.old }
-    ensures services_in_front { services.new ≡ front (services_behind leading header section.now) services.old }
+    ensures services_in_front { services.new ≡ front (services_behind (leading leads) header section.now) services.old }
 {
-    let marked = match read_lists(header, section, arcs, marks) {
-        SectionRead::Got(at) => at,
-        SectionRead::Refused(why) => return SheetRead::Refused(why),
-    };
-    let last = match sheet_services::services_behind(
-        section,
-        marked,
-        leading,
-        header.nodes,
-        services,
-    ) {
-        SectionRead::Got(at) => at,
-        SectionRead::Refused(why) => return SheetRead::Refused(why),
-    };
-    if last < section.len() {
-        return SheetRead::Refused(12);
+    let mut bytes = Bytes { rest: section };
+    take_lists(&mut bytes, header, arcs, marks)?;
+    sheet_services::take_services(&mut bytes, leads, header.nodes, services)?;
+    if !bytes.rest.is_empty() {
+        return Err(Refusal::Rest);
     }
     if few_required(header, arcs, marks) {
-        return SheetRead::Got(header);
+        Ok(())
+    } else {
+        Err(Refusal::Required)
     }
-    SheetRead::Refused(13)
 }
 
 // Reads the content of a sheet and what stands behind it.
 fn read_content(
-    leading: usize,
+    leads: bool,
     content: &[u8],
     arcs: &mut [u32],
     marks: &mut [u8],
     services: &mut [u32],
-) -> SheetRead
+) -> Result<Header, Refusal>
     requires { (1536 ≤ length arcs.old) × (576 ≤ length marks.old) × (64 ≤ length services.old) }
-    ensures content_told { result ≡ answered (read_content leading content.now) }
+    ensures got { IfOk result (λ header. answered (read_content (leading leads) content.now) ≡ Ok header) }
+    ensures refused { IfErr result (λ why. read_content (leading leads) content.now ≡ refuse (number_of why)) }
     ensures arcs_in_front { arcs.new ≡ front (flat (arcs_begun content.now)) arcs.old }
     ensures marks_in_front { marks.new ≡ front (marks_begun content.now) marks.old }
-    ensures services_in_front { services.new ≡ front (services_begun leading content.now) services.old }
+    ensures services_in_front { services.new ≡ front (services_begun (leading leads) content.now) services.old }
 {
-    match sheet_parts::header_of(content) {
-        HeaderRead::Got(header, at) => read_behind(
-            leading,
-            header,
-            &content[at..],
-            arcs,
-            marks,
-            services,
-        ),
-        HeaderRead::Refused(why) => SheetRead::Refused(why),
-    }
+    let mut bytes = Bytes { rest: content };
+    let header = sheet_parts::take_header(&mut bytes)?;
+    read_behind(leads, header, bytes.rest, arcs, marks, services)?;
+    Ok(header)
 }
 
 // Reads a sheet. The numbers of its arcs, three each, are stored over the front of `arcs`, its marks over the front of `marks`, its service minutes over the
 // front of `services`; where the sheet is taken, the arcs' weights are what it means, minutes and service minutes together. A refused sheet leaves there what
-// was read before the fault. The last clause follows from the others; it is what callers use.
+// was read before the fault. The clauses `taken_refused` and `loaded` follow from the others; they are what callers use.
 pub fn read_page(
     sheet: &[u8],
     arcs: &mut [u32],
     marks: &mut [u8],
     services: &mut [u32],
-) -> SheetRead
+) -> Result<Header, Refusal>
     requires { (1536 ≤ length arcs.old) × (576 ≤ length marks.old) × (64 ≤ length services.old) }
-    ensures sheet_told { result ≡ answered (taken sheet.now) }
+    ensures header_told { IfOk result (λ header. answered (taken sheet.now) ≡ Ok header) }
+    ensures refused { IfErr result (λ why. page sheet.now ≡ refuse (number_of why)) }
+    ensures taken_refused { IfErr result (λ why. taken sheet.now ≡ refuse (number_of why)) }
     ensures arcs_in_front { let s = sheet.now in arcs.new ≡ front (flat (arcs_left (taken s) (arcs_begun (content s)))) arcs.old }
     ensures marks_in_front { marks.new ≡ front (marks_begun (content sheet.now)) marks.old }
     ensures services_in_front { let s = sheet.now in services.new ≡ front (services_begun (lead s) (content s)) services.old }
-    ensures loaded_or_refused { PageAs sheet.now result arcs.new marks.new services.new }
+    ensures loaded { IfOk result (λ h. LoadedPage sheet.now h (take (3 * h.arcs) arcs.new) (take (h.nodes + h.arcs) marks.new) (take h.nodes services.new)) }
 {
-    let start = sheet_services::content_at(sheet);
-    match read_content(start, &sheet[start..], arcs, marks, services) {
-        SheetRead::Got(header) => {
-            sheet_services::serve(arcs, header.arcs, &services[..header.nodes]);
-            SheetRead::Got(header)
-        }
-        SheetRead::Refused(why) => SheetRead::Refused(why),
-    }
+    let (leads, content) = sheet_services::lead_and_content(sheet);
+    let header = read_content(leads, content, arcs, marks, services)?;
+    sheet_services::serve(arcs, header.arcs, &services[..header.nodes]);
+    Ok(header)
 }
 
 // The same for a caller that looks at no service minutes by themselves.
-pub fn read(sheet: &[u8], arcs: &mut [u32], marks: &mut [u8]) -> SheetRead
+pub fn read(sheet: &[u8], arcs: &mut [u32], marks: &mut [u8]) -> Result<Header, Refusal>
     requires { (1536 ≤ length arcs.old) × (576 ≤ length marks.old) }
-    ensures sheet_told { result ≡ answered (taken sheet.now) }
+    ensures header_told { IfOk result (λ header. answered (taken sheet.now) ≡ Ok header) }
+    ensures refused { IfErr result (λ why. taken sheet.now ≡ refuse (number_of why)) }
     ensures arcs_in_front { let s = sheet.now in arcs.new ≡ front (flat (arcs_left (taken s) (arcs_begun (content s)))) arcs.old }
     ensures marks_in_front { marks.new ≡ front (marks_begun (content sheet.now)) marks.old }
-    ensures loaded_or_refused { ReadAs sheet.now result arcs.new marks.new }
+    ensures loaded { IfOk result (λ h. Loaded sheet.now h (take (3 * h.arcs) arcs.new) (take (h.nodes + h.arcs) marks.new)) }
 {
     let mut services = [0u32; NODES];
     read_page(sheet, arcs, marks, &mut services)

@@ -8,12 +8,12 @@ use mathlib.Core.Bool.{Bool, true, false, not, ◌&&◌, ◌||◌}
 use native.Mathlib.Omega.{arith}
 use native.Mathlib.Numerals.{add-one}
 use lib.Dec.{eqb, ltb}
-use lib.ListN.{length, get_or, set, take, drop, drop_of_length-le, replicate, get_or-eq_default, get_or-replicate, length-append, length-set, length-take}
+use Rattle.std.specs.List.{list_any}
+use lib.ListN.{length, get_or, set, take, replicate, get_or-eq_default, get_or-replicate, length-append, length-set, length-take}
 use lib.Seq.{get_or-set_same, get_or-set_other, set_out, take_all, take-nil, take-append-le}
 use borrow.Author.Tests.{eqb-true, eqb-false, eq-eqb, ne_eqb, ltb-true, ltb-false, lt-ltb}
-use Rattle.lists.specs.Lists.{pick, front, member, add, keep, span}
+use Rattle.lists.specs.Lists.{front, member, add, keep, span}
 use Rattle.lists.proofs.MemberLaws.{member_away}
-use Rattle.lists.proofs.TestedLaws.{entry_at}
 use Rattle.lists.proofs.FrontLaws.{length_front, push}
 use Rattle.walks.specs.Graph.{Arc, no_arc, tail_of, head_of, arc_item}
 use Rattle.walks.specs.Flat.{arcs_of}
@@ -23,24 +23,17 @@ use Rattle.sheet.proofs.MarkLaws.{arc_free, unmarked}
 use Rattle.sheet.specs.Sheet.{Sheet, mark_of, is_mandatory, is_forced, ends_mandatory, all_arcs, is_required, required, sheet_of, Sized}
 use Rattle.sheet_required.specs.Whole.{ForcedNodes, RoomListed}
 
--- a mark of 1 that is set at i, seen from p
-set_one : (xs : List ℕ) (i p : ℕ) → p < length xs → get_or (set xs i 1) p 0 ≡ pick (eqb i p) 1 (get_or xs p 0)
+-- a mark that is set at i, seen from p
+set_one : (xs : List Bool) (i p : ℕ) → p < length xs → get_or (set xs i true) p false ≡ (eqb i p || get_or xs p false)
 set_one xs i p h = go (eqb i p) refl
   where
-    go : (t : Bool) → eqb i p ≡ t → get_or (set xs i 1) p 0 ≡ pick t 1 (get_or xs p 0)
-    go true e = let q : i ≡ p = eqb-true i p e in rw (q, get_or-set_same xs p 1 0 h)
-    go false e = get_or-set_other xs i p 1 0 (λ q. eqb-false i p e (sym q))
+    go : (t : Bool) → eqb i p ≡ t → get_or (set xs i true) p false ≡ (t || get_or xs p false)
+    go true e = let q : i ≡ p = eqb-true i p e in rw (q, get_or-set_same xs p true false h)
+    go false e = get_or-set_other xs i p true false (λ q. eqb-false i p e (sym q))
 
--- two of them, where a 1 stood for d
-two_set : (xs : List ℕ) (i k p : ℕ) (d : Bool) → p < length xs → get_or xs p 0 ≡ pick d 1 0 → get_or (set (set xs i 1) k 1) p 0 ≡ pick ((eqb i p || eqb k p) || d) 1 0
-two_set xs i k p d h e =
-    set_one (set xs i 1) k p (rw length-set h) ∙ ap (pick (eqb k p) 1) (set_one xs i p h ∙ ap (pick (eqb i p) 1) e) ∙ either (eqb i p) (eqb k p)
-  where
-    either : (a b : Bool) → ◌≡◌ {A = ℕ} (pick b 1 (pick a 1 (pick d 1 0))) (pick ((a || b) || d) 1 0)
-    either true true = refl
-    either true false = refl
-    either false true = refl
-    either false false = refl
+-- two of them
+two_set : (xs : List Bool) (i k p : ℕ) → p < length xs → get_or (set (set xs i true) k true) p false ≡ (eqb k p || (eqb i p || get_or xs p false))
+two_set xs i k p h = set_one (set xs i true) k p (rw length-set h) ∙ ap (λ (b : Bool). eqb k p || b) (set_one xs i p h)
 
 eqb_sym : (a b : ℕ) → eqb a b ≡ eqb b a
 eqb_sym a b = go (eqb a b) refl
@@ -48,10 +41,6 @@ eqb_sym a b = go (eqb a b) refl
     go : (t : Bool) → eqb a b ≡ t → t ≡ eqb b a
     go true e = sym (eq-eqb b a (sym (eqb-true a b e)))
     go false e = sym (ne_eqb b a (λ q. eqb-false a b e (sym q)))
-
-or_assoc : (a b c : Bool) → (a || (b || c)) ≡ ((a || b) || c)
-or_assoc true b c = refl
-or_assoc false b c = refl
 
 none_or : (a : Bool) → (a || false) ≡ a
 none_or true = refl
@@ -61,77 +50,88 @@ module _ (h : Header) (xs ms : List ℕ) where
   abbrev S : Sheet
   S = sheet_of h xs ms
 
-  -- the arcs from j on were looked at
-  pub record Ending (j : ℕ) (forced : List ℕ) : Type 0 where
+  -- the arcs before j were looked at, and those from j on are still to be
+  pub record Ending (j : ℕ) (forced : List Bool) : Type 0 where
     pub few : j ≤ h.arcs
     pub size : length forced ≡ 64
-    pub each : (p : ℕ) → p < 64 → get_or forced p 0 ≡ pick (ends_mandatory S p (span (h.arcs - j) j)) 1 0
+    pub each : (p : ℕ) → p < 64 → ends_mandatory S p (span h.arcs 0) ≡ (get_or forced p false || ends_mandatory S p (span (h.arcs - j) j))
 
-  pub no_ends : Ending h.arcs (replicate 64 0)
-  unfolding ends_mandatory span
-  no_ends =
-      record {
-        few = omega arith;
-        size = refl;
-        each = λ p l. let e : h.arcs - h.arcs ≡ 0 = omega arith in rw (get_or-replicate {A = ℕ} 64 p 0 0 l, e);
-      }
+  pub no_ends : Ending 0 (replicate 64 false)
+  no_ends = record {
+    few = omega arith;
+    size = refl;
+    each = λ p l. let e : h.arcs - 0 ≡ h.arcs = omega arith in rw (get_or-replicate {A = Bool} 64 p false false l, e);
+  }
 
-  module _ (sized : Sized h xs ms) {j : ℕ} {forced : List ℕ} (w : Ending j forced) (l : 0 < j) where
-    spanned : span (h.arcs - (j - 1)) (j - 1) ≡ (j - 1) ∷ span (h.arcs - j) j
+  module _ (sized : Sized h xs ms) {j : ℕ} {forced : List Bool} (w : Ending j forced) (l : j < h.arcs) where
+    spanned : span (h.arcs - j) j ≡ j ∷ span (h.arcs - (j + 1)) (j + 1)
     unfolding span
-    spanned =
-        let e : h.arcs - (j - 1) ≡ suc (h.arcs - j) = omega (arith, w.few) in
-        let q : suc (j - 1) ≡ j = omega arith in
-        rw (e, span, q)
+    spanned = let e : h.arcs - j ≡ suc (h.arcs - (j + 1)) = omega arith in rw (e, span, add-one j)
 
-    pub end_more : is_mandatory S (arc_item S.graph (j - 1)) ≡ true → Ending (j - 1) (set (set forced (get_or xs ((j - 1) * 3) 0) 1) (get_or xs ((j - 1) * 3 + 1) 0) 1)
+    pub end_more : is_mandatory S (arc_item S.graph j) ≡ true → Ending (j + 1) (set (set forced (get_or xs (j * 3) 0) true) (get_or xs (j * 3 + 1) 0) true)
     unfolding ends_mandatory tail_of head_of
     end_more m =
         record {
-          few = omega (arith, w.few);
+          few = omega arith;
           size = simp length-set w.size;
-          each = λ p b. rw (spanned, m, tail, head) (two_set forced (get_or xs ((j - 1) * 3) 0) (get_or xs ((j - 1) * 3 + 1) 0) p _ (omega (arith, w.size)) (w.each p b));
+          each = λ p b. w.each p b
+              ∙ rw (spanned, m, tail, head, two_set forced (get_or xs (j * 3) 0) (get_or xs (j * 3 + 1) 0) p (omega (arith, w.size)))
+              (either (get_or forced p false) (eqb (get_or xs (j * 3) 0) p) (eqb (get_or xs (j * 3 + 1) 0) p) _);
         }
       where
-        tail : (get_or (arcs_of xs) (j - 1) no_arc).tail ≡ get_or xs ((j - 1) * 3) 0
-        tail = ap (λ (x : Arc). x.tail) (arc_at xs (j - 1) (omega (arith, sized.0, w.few)))
+        tail : (get_or (arcs_of xs) j no_arc).tail ≡ get_or xs (j * 3) 0
+        tail = ap (λ (x : Arc). x.tail) (arc_at xs j (omega (arith, sized.0)))
 
-        head : (get_or (arcs_of xs) (j - 1) no_arc).head ≡ get_or xs ((j - 1) * 3 + 1) 0
-        head = ap (λ (x : Arc). x.head) (arc_at xs (j - 1) (omega (arith, sized.0, w.few)))
+        head : (get_or (arcs_of xs) j no_arc).head ≡ get_or xs (j * 3 + 1) 0
+        head = ap (λ (x : Arc). x.head) (arc_at xs j (omega (arith, sized.0)))
 
-    pub end_pass : is_mandatory S (arc_item S.graph (j - 1)) ≡ false → Ending (j - 1) forced
+        either : (d a b r : Bool) → (d || ((a || b) || r)) ≡ ((b || (a || d)) || r)
+        either true true true r = refl
+        either true true false r = refl
+        either true false true r = refl
+        either true false false r = refl
+        either false true true r = refl
+        either false true false r = refl
+        either false false true r = refl
+        either false false false r = refl
+
+    pub end_pass : is_mandatory S (arc_item S.graph j) ≡ false → Ending (j + 1) forced
     unfolding ends_mandatory
-    end_pass m = record { few = omega (arith, w.few); size = w.size; each = λ p b. rw (spanned, m) (w.each p b) }
+    end_pass m = record { few = omega arith; size = w.size; each = λ p b. w.each p b ∙ rw (spanned, m) }
 
   -- source and target are put in
-  pub all_ends : Sized h xs ms → {j : ℕ} {ends : List ℕ} → Ending j ends → j ≤ 0 → ForcedNodes S (set (set ends h.source 1) h.target 1)
-  unfolding all_arcs
+  pub all_ends : Sized h xs ms → {j : ℕ} {ends : List Bool} → Ending j ends → h.arcs ≤ j → ForcedNodes S (set (set ends h.source true) h.target true)
+  unfolding all_arcs ends_mandatory span
   all_ends sized {j} {ends} w l = record {
     size = simp length-set w.size;
     each = λ p q.
-        two_set ends h.source h.target p (ends_mandatory S p (span (h.arcs - j) j)) (omega (arith, w.size)) (w.each p q)
-        ∙ rw (all, eqb_sym h.source p, eqb_sym h.target p, or_assoc (eqb p h.source) (eqb p h.target) (ends_mandatory S p (all_arcs S.graph)));
+        two_set ends h.source h.target p (omega (arith, w.size))
+        ∙ rw (found p q, eqb_sym h.source p, eqb_sym h.target p) (turned (eqb p h.source) (eqb p h.target) (ends_mandatory S p (all_arcs S.graph)));
   }
     where
-      all : span (h.arcs - j) j ≡ all_arcs S.graph
-      all = let z : j ≡ 0 = omega arith in let e : h.arcs - 0 ≡ h.arcs = omega arith in rw (z, e, arcs_many xs h.arcs sized.0)
+      found : (p : ℕ) → p < 64 → get_or ends p false ≡ ends_mandatory S p (all_arcs S.graph)
+      found p q =
+          let z : h.arcs - j ≡ 0 = omega arith in
+          sym (rw (arcs_many xs h.arcs sized.0) (w.each p q ∙ rw z (none_or (get_or ends p false))))
 
--- a node is forced exactly where its number is 1
-pub forced_one : (S : Sheet) {forced : List ℕ} → ForcedNodes S forced → S.graph.nodes ≤ 64 → (p : ℕ) → p < S.graph.nodes → eqb (get_or forced p 0) 1 ≡ is_forced S p
+      turned : (a b c : Bool) → (b || (a || c)) ≡ (a || (b || c))
+      turned true true c = refl
+      turned true false c = refl
+      turned false true c = refl
+      turned false false c = refl
+
+-- a node is forced exactly where its mark says so
+pub forced_one : (S : Sheet) {forced : List Bool} → ForcedNodes S forced → S.graph.nodes ≤ 64 → (p : ℕ) → p < S.graph.nodes → get_or forced p false ≡ is_forced S p
 unfolding is_forced
-forced_one S w few p h = rw (lt-ltb p S.graph.nodes h, w.each p (omega arith)) (one (eqb p S.source || (eqb p S.target || ends_mandatory S p (all_arcs S.graph))))
-  where
-    one : (t : Bool) → eqb (pick t 1 0) 1 ≡ t
-    one true = refl
-    one false = refl
+forced_one S w few p h = rw (lt-ltb p S.graph.nodes h) (w.each p (omega arith))
 
 -- the test of an item, by its mark and the forced nodes
-pub required_by : (S : Sheet) {forced : List ℕ} → ForcedNodes S forced → S.graph.nodes ≤ 64 → (i : ℕ)
-    → (eqb (get_or S.marks i 0) 1 && not (ltb i S.graph.nodes && eqb (get_or forced i 0) 1)) ≡ is_required S i
+pub required_by : (S : Sheet) {forced : List Bool} → ForcedNodes S forced → S.graph.nodes ≤ 64 → (i : ℕ)
+    → (eqb (get_or S.marks i 0) 1 && not (ltb i S.graph.nodes && get_or forced i false)) ≡ is_required S i
 unfolding is_required is_mandatory mark_of
 required_by S {forced} w few i = ap (λ (b : Bool). eqb (get_or S.marks i 0) 1 && not b) (go (ltb i S.graph.nodes) refl)
   where
-    go : (t : Bool) → ltb i S.graph.nodes ≡ t → (t && eqb (get_or forced i 0) 1) ≡ is_forced S i
+    go : (t : Bool) → ltb i S.graph.nodes ≡ t → (t && get_or forced i false) ≡ is_forced S i
     go true e = forced_one S w few i (ltb-true i S.graph.nodes e)
     go false e = sym (arc_free S i (ltb-false i S.graph.nodes e))
 
@@ -205,15 +205,11 @@ module _ {f : ℕ → Bool} {n : ℕ} {old out : List ℕ} {count p : ℕ} (w : 
       let e : keep f (span n 0) ≡ w.xs = w.same ∙ rw k (append-nil w.xs) in
       rw e (record { counted = sym w.size; written = w.holds })
 
--- the mark of 1 was found among the first i, or is looked for among the others
-pub found_more : (xs : List ℕ) (i : ℕ) (t : Bool) → member 1 xs ≡ (t || member 1 (drop i xs)) → i < length xs
-    → member 1 xs ≡ ((t || eqb (get_or xs i 0) 1) || member 1 (drop (i + 1) xs))
+-- what `contains` finds
+pub found_one : (xs : List ℕ) → list_any (λ y. eqb y 1) xs ≡ member 1 xs
 unfolding member
-found_more xs i t e h = e ∙ ap (λ (ys : List ℕ). t || member 1 ys) (entry_at 0 xs i h) ∙ rw (eqb_sym 1 (get_or xs i 0)) (or_assoc t (eqb (get_or xs i 0) 1) (member 1 (drop (i + 1) xs)))
-
-pub found_all : (xs : List ℕ) (i : ℕ) (t : Bool) → member 1 xs ≡ (t || member 1 (drop i xs)) → length xs ≤ i → t ≡ member 1 xs
-unfolding member
-found_all xs i t e h = sym (e ∙ ap (λ (ys : List ℕ). t || member 1 ys) (drop_of_length-le xs h) ∙ none_or t)
+found_one [] = refl
+found_one (x ∷ xs) = rw (found_one xs, eqb_sym x 1)
 
 -- with no mark of 1 nothing is required
 pub none_required : (S : Sheet) (list : List ℕ) → member 1 S.marks ≡ false → RoomListed (required S) list list 0

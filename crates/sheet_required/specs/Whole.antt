@@ -1,6 +1,6 @@
 -- A sheet as the code has it.
-use Rattle.std.specs.Prelude.{ℕ, ◌≤◌, ◌<◌, ◌≡◌, ◌||◌, List, length, get_or, take, eqb}
-use Rattle.lists.specs.Lists.{pick, front}
+use Rattle.std.specs.Prelude.{ℕ, ◌≤◌, ◌<◌, ◌≡◌, Bool, false, ◌||◌, List, length, get_or, take, eqb}
+use Rattle.lists.specs.Lists.{front}
 use Rattle.sheet.specs.Sheet.{Sheet, sheet_of, Sized, all_arcs, ends_mandatory, required}
 use Rattle.sheet.specs.Good.{Good}
 use Rattle.rows.specs.Net.{net_of, Proper}
@@ -17,10 +17,10 @@ pub record Whole (h : Header) (arcs marks : List ℕ) : Type 0 where
   pub good : Good (sheet_of h arcs marks)
   pub eight : length (required (sheet_of h arcs marks)) ≤ 8
 
--- 64 numbers, a 1 for each node that is source, target or an end of a mandatory arc, and else 0
-pub record ForcedNodes (S : Sheet) (forced : List ℕ) : Type 0 where
+-- 64 marks: true for each node that is source, target or an end of a mandatory arc, and else false
+pub record ForcedNodes (S : Sheet) (forced : List Bool) : Type 0 where
   pub size : length forced ≡ 64
-  pub each : (p : ℕ) → p < 64 → get_or forced p 0 ≡ pick (eqb p S.source || (eqb p S.target || ends_mandatory S p (all_arcs S.graph))) 1 0
+  pub each : (p : ℕ) → p < 64 → get_or forced p false ≡ (eqb p S.source || (eqb p S.target || ends_mandatory S p (all_arcs S.graph)))
 
 -- so many entries there are, and as many of them as the list has room for stand in front of it
 pub record RoomListed (xs old list : List ℕ) (n : ℕ) : Type 0 where

@@ -1,8 +1,8 @@
-// The forced nodes and the required items of a sheet (document 01, 'The pass, in its order'; document 02, 2.3).
+// The forced nodes and the required items of a sheet: the things that a pass counts.
 
 #![tactic(auto)]
 
-ghost use Rattle.std.specs.Prelude.{◌≡◌, not, ◌&&◌, ◌+◌, ◌*◌, ◌≤◌, ◌<◌, length, get_or, set, eqb, ltb, leb};
+ghost use Rattle.std.specs.Prelude.{◌≡◌, true, false, not, ◌&&◌, ◌+◌, ◌*◌, ◌≤◌, ◌<◌, length, get_or, set, eqb, ltb, leb};
 ghost use Rattle.lists.specs.Lists.{member};
 ghost use Rattle.sheet.specs.Sheet.{required, sheet_of, Sized};
 ghost use Rattle.sheet_required.specs.Whole.{ForcedNodes, RoomListed};
@@ -11,31 +11,29 @@ use sheet::Header;
 use walks::{GOALS, MANDATORY, NODES};
 
 // The node is marked, where it is one of those that `nodes` has a place for.
-fn mark_node(nodes: &mut [u8], node: usize)
-    ensures { nodes.new ≡ set nodes.old node 1 }
+fn mark_node(nodes: &mut [bool], node: usize)
+    ensures { nodes.new ≡ set nodes.old node true }
 {
     if node < nodes.len() {
-        nodes[node] = 1;
+        nodes[node] = true;
     }
 }
 
 // Both ends of an arc are marked.
-fn mark_ends(nodes: &mut [u8], tail: u32, head: u32)
-    ensures { nodes.new ≡ set (set nodes.old tail 1) head 1 }
+fn mark_ends(nodes: &mut [bool], tail: u32, head: u32)
+    ensures { nodes.new ≡ set (set nodes.old tail true) head true }
 {
     mark_node(nodes, tail as usize);
     mark_node(nodes, head as usize);
 }
 
-// The nodes that every route meets whatever else is marked, marked 1: source, target and the ends of mandatory arcs.
-pub fn forced_nodes(header: Header, arcs: &[u32], marks: &[u8]) -> [u8; NODES]
+// The nodes that every route meets whatever else is marked: source, target and the ends of mandatory arcs.
+pub fn forced_nodes(header: Header, arcs: &[u32], marks: &[u8]) -> [bool; NODES]
     requires { Sized header arcs.now marks.now }
     ensures { ForcedNodes (sheet_of header arcs.now marks.now) result }
 {
-    let mut forced = [0u8; NODES];
-    let mut j = header.arcs;
-    while 0 < j {
-        j -= 1;
+    let mut forced = [false; NODES];
+    for j in 0..header.arcs {
         if marks[header.nodes + j] == MANDATORY {
             mark_ends(&mut forced, arcs[j * 3], arcs[j * 3 + 1]);
         }
@@ -46,17 +44,11 @@ pub fn forced_nodes(header: Header, arcs: &[u32], marks: &[u8]) -> [u8; NODES]
 }
 
 // Whether an item with this mark is required: mandatory, and an arc or a node that is not forced.
-fn is_required(item: usize, nodes: usize, mark: u8, forced: &[u8]) -> bool
+fn is_required(item: usize, nodes: usize, mark: u8, forced: &[bool]) -> bool
     requires { nodes ≤ length forced.now }
-    ensures { result ≡ (eqb mark 1 && not (ltb item nodes && eqb (get_or forced.now item 0) 1)) }
+    ensures { result ≡ (eqb mark 1 && not (ltb item nodes && get_or forced.now item false)) }
 {
-    if mark != MANDATORY {
-        return false;
-    }
-    if item < nodes {
-        return forced[item] != 1;
-    }
-    true
+    mark == MANDATORY && !(item < nodes && forced[item])
 }
 
 // Stores the item behind the `count` that were found before it, where the list has room. Gives how many were found with it.
@@ -64,29 +56,20 @@ fn note_item(list: &mut [usize], count: usize, item: usize) -> usize
     requires { count < 576 }
     ensures { (result ≡ count + 1) × (list.new ≡ set list.old count item) }
 {
-    let found = count + 1;
-    if list.len() < found {
-        return found;
+    if count < list.len() {
+        list[count] = item;
     }
-    list[count] = item;
-    found
+    count + 1
 }
 
-// Whether some mark is mandatory. It looks at all of them: the machine then takes many at a time.
+// Whether some mark is mandatory. `contains` looks at many at a time.
 fn some_mandatory(marks: &[u8]) -> bool
     ensures { result ≡ member 1 marks.now }
 {
-    let mut found = false;
-    let mut i: usize = 0;
-    while i < marks.len() {
-        found |= marks[i] == MANDATORY;
-        i += 1;
-    }
-    found
+    marks.contains(&MANDATORY)
 }
 
-// Gives how many required items there are (document 02, 2.3: counted things) and writes as many of them, ascending, over the front of `list` as it has
-// room for.
+// Gives how many required items there are and writes as many of them, ascending, over the front of `list` as it has room for.
 pub fn required_items(header: Header, arcs: &[u32], marks: &[u8], list: &mut [usize]) -> usize
     requires { Sized header arcs.now marks.now × (header.nodes ≤ 64) × (header.arcs ≤ 512) }
     ensures { let S = sheet_of header arcs.now marks.now in
@@ -97,12 +80,10 @@ pub fn required_items(header: Header, arcs: &[u32], marks: &[u8], list: &mut [us
     }
     let forced = forced_nodes(header, arcs, marks);
     let mut count: usize = 0;
-    let mut i: usize = 0;
-    while i < marks.len() {
-        if is_required(i, header.nodes, marks[i], &forced) {
+    for (i, &mark) in marks.iter().enumerate() {
+        if is_required(i, header.nodes, mark, &forced) {
             count = note_item(list, count, i);
         }
-        i += 1;
     }
     count
 }

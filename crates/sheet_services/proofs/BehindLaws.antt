@@ -1,94 +1,64 @@
--- Laws of what stands behind the content of a sheet: its form, and its service minutes. Assumes nothing.
-use Prim.Native.Nat.{ℕ, zero, suc, ◌≤◌, ◌<◌}
-use mathlib.Core.Path.{◌≡◌, refl, sym, ap, ◌∙◌}
+-- Laws of what stands behind the content of a sheet: nothing where no 1 leads, and else its service minutes. Assumes nothing.
+use Prim.Native.Nat.{ℕ, ◌≤◌}
+use mathlib.Core.Path.{◌≡◌, sym, ap, ◌∙◌}
 use mathlib.Core.Bool.{true, false}
-use mathlib.Core.List.{List, [], ◌∷◌}
+use mathlib.Core.List.{List, ◌++◌, append_assoc}
 use native.Mathlib.Omega.{arith}
-use lib.ListN.{length, get_or, take, drop}
-use lib.Seq.{take_at}
+use lib.ListN.{length, take, drop, length-append, take-append-drop}
+use lib.Seq.{length-take-le}
+use Rattle.std.proofs.lemmas.List.{drop-append-le}
 use Rattle.lists.specs.Lists.{front}
-use Rattle.varint.specs.Varint.{got, refuse, after, several}
+use Rattle.varint.specs.Varint.{Read, got, refuse, after, several}
+use Rattle.work.proofs.ZeroLaws.{length_zeros}
 use Rattle.numbers.specs.Begun.{begun}
 use Rattle.numbers.proofs.SeveralLaws.{several_read}
-use Rattle.sheet.proofs.LeadLaws.{lead_one, Led, plain, led, led_is}
 use Rattle.sheet.specs.Lent.{zeros}
 use Rattle.sheet.specs.Page.{no_service}
-use Rattle.sheet.specs.Reader.{lead, content, read_service, some_service, read_services}
-use Rattle.sheet.specs.Sheet.{Sheet}
-use Rattle.numbers.specs.declared.SectionRead.{SectionRead}
-use Rattle.numbers.specs.declared.SectionRead.TheVariants.{Got, Refused}
-use Rattle.sheet_services.specs.Services.{services_in, page_of, ServicesAre}
+use Rattle.sheet.specs.Reader.{read_service, some_service, read_services}
+use Rattle.sheet_services.specs.Services.{services_in, ServicesTaken, ServicesRefused}
 
--- where the content starts, by the first byte
-abbrev pub Starts : List ℕ → ℕ → Type 0
-Starts s r = (r ≡ lead s) × ((drop r s ≡ content s) × (r ≤ length s))
+-- n values of a kind, read over the first n places of a list
+module _ {A : Type 0} (f : List ℕ → Read A) (bs : List ℕ) {k n : ℕ} (size : k ≡ n) where
+  pub part_got : {xs : List A} {rest : List ℕ} → several f k bs ≡ got xs rest → several f n bs ≡ got (begun f n bs) rest
+  part_got {xs} {rest} q = let e = several_read f k bs xs rest (sym q) in rw (← size) (rw e.1 q)
 
-pub starts_plain : (s : List ℕ) → (get_or s 0 0 ≡ 1 → ⊥) → Starts s 0
-starts_plain s n = go (led_is s)
-  where
-    go : Led s → Starts s 0
-    go (plain e c) = (sym e, (sym c, omega arith))
-    go (led rest e k c) = absurd (n (ap (λ (bs : List ℕ). get_or bs 0 0) e))
+  pub part_refused : {e : ℕ} → several f k bs ≡ refuse e → several f n bs ≡ refuse e
+  part_refused q = rw (← size) q
 
-pub starts_none : (s : List ℕ) → length s ≡ 0 → Starts s 0
-starts_none [] e = starts_plain [] (λ o. omega (arith, o))
-starts_none (b ∷ bs) e = absurd (omega (arith, e))
+pub part_front : (xs d : List ℕ) (n : ℕ) {out : List ℕ} → out ≡ front xs (take n d) → length out ≡ n → n ≤ length d → out ++ drop n d ≡ front xs d
+part_front xs d n {out} e l h =
+    let few : length xs ≤ length (take n d) = omega (arith, length-take-le n d h, simp length-append at (sym (ap length e) ∙ l)) in
+    rw e (append_assoc xs (drop (length xs) (take n d)) (drop n d)) ∙ ap (xs ++◌) (sym (drop-append-le (length xs) (take n d) (drop n d) few) ∙ ap (drop (length xs)) (take-append-drop n d))
 
-pub starts_led : (s : List ℕ) → 0 < length s → get_or s 0 0 ≡ 1 → Starts s 1
-starts_led s h o = go (led_is s)
-  where
-    one : (bs : List ℕ) → 0 < length bs → get_or bs 0 0 ≡ 1 → lead bs ≡ 0 → ⊥
-    one [] h o e = omega arith
-    one (b ∷ bs) h o e = omega (arith, sym e ∙ ap (λ (x : ℕ). lead (x ∷ bs)) o ∙ (lead_one bs).0)
+module _ (n : ℕ) (bs : List ℕ) where
+  -- none leads
+  pub plain_front : (d : List ℕ) → front (services_in 0 n bs) d ≡ zeros n ++ drop n d
+  unfolding services_in
+  plain_front d = rw length_zeros
 
-    go : Led s → Starts s 1
-    go (plain e c) = absurd (one s h o e)
-    go (led rest e k c) = (sym k, (ap (drop 1) e ∙ sym c, h))
-
--- What stands behind a content of n nodes, read from bs on: what a reader says of it (`ServicesAre`), and what it leaves over the front of `old`.
--- none leads
-pub clear_behind : (s : List ℕ) (k n at : ℕ) (old : List ℕ) {out : List ℕ} → k ≡ 0 → out ≡ front (zeros n) old
-    → ServicesAre s k n (drop at s) (Got at) × (out ≡ front (services_in k n (drop at s)) old)
-unfolding services_in read_services
-clear_behind s zero n at old e h = (λ S z. ap (λ (i : ℕ). got (record { says = S; services = zeros i }) (drop at s)) (sym z), h)
-clear_behind s (suc k) n at old e h = absurd (omega arith)
-
--- one leads
-module _ (s : List ℕ) (k n : ℕ) (bs : List ℕ) where
-  led_are : (r : SectionRead) → (k ≡ 0 → ⊥)
-      → ((S : Sheet) → page_of s S (begun read_service n bs) r ≡ after (several read_service n bs) (some_service S)) → ServicesAre s k n bs r
+  pub plain_taken : ServicesTaken 0 n bs bs
   unfolding services_in read_services
-  led_are r = go k
-    where
-      go : (k : ℕ) → (k ≡ 0 → ⊥) → ((S : Sheet) → page_of s S (begun read_service n bs) r ≡ after (several read_service n bs) (some_service S)) → ServicesAre s k n bs r
-      go zero z f = absurd (z refl)
-      go (suc k) z f = λ S e. f S ∙ ap (λ (i : ℕ). after (several read_service i bs) (some_service S)) (sym e)
+  plain_taken = record { taken = λ S e. ap (λ (i : ℕ). got (record { says = S; services = zeros i }) bs) e }
 
-  module _ (old : List ℕ) {out : List ℕ} where
-    led_holds : (k ≡ 0 → ⊥) → out ≡ front (begun read_service n bs) old → out ≡ front (services_in k n bs) old
-    unfolding services_in
-    led_holds = go k
-      where
-        go : (k : ℕ) → (k ≡ 0 → ⊥) → out ≡ front (begun read_service n bs) old → out ≡ front (services_in k n bs) old
-        go zero z h = absurd (z refl)
-        go (suc k) z h = h
+  -- one leads
+  pub led_front : (d : List ℕ) {k : ℕ} {out : List ℕ} → k ≡ n → out ≡ front (begun read_service k bs) (take n d) → length out ≡ k → n ≤ length d
+      → out ++ drop n d ≡ front (services_in 1 n bs) d
+  unfolding services_in
+  led_front d size e l h = part_front (begun read_service n bs) d n (rw size at e) (l ∙ size) h
 
-    pub refused_behind : (k ≡ 0 → ⊥) → {w : ℕ} → refuse w ≡ several read_service n bs → out ≡ front (begun read_service n bs) old
-        → ServicesAre s k n bs (Refused w) × (out ≡ front (services_in k n bs) old)
-    unfolding after
-    refused_behind z {w} q h = (led_are (Refused w) z (λ S. rw (← q)), led_holds z h)
+  module _ {k : ℕ} (size : k ≡ n) where
+    pub led_refused : {e : ℕ} → several read_service k bs ≡ refuse e → ServicesRefused 1 n bs e
+    unfolding read_services after
+    led_refused q = let z = part_refused read_service bs size q in record { refused = λ S e. rw (e, z) }
 
-    module _ (z : k ≡ 0 → ⊥) {rest : List ℕ} (q : got (begun read_service n bs) rest ≡ several read_service n bs) (h : out ≡ front (begun read_service n bs) old) where
-      -- the service minutes that were read stand in front
-      held : take n out ≡ begun read_service n bs
-      held = ap (take n) h ∙ take_at (begun read_service n bs) _ n (several_read read_service n bs (begun read_service n bs) rest q).0
+    module _ {xs rest : List ℕ} (q : several read_service k bs ≡ got xs rest) where
+      same : begun read_service n bs ≡ xs
+      same = rw (← size) (several_read read_service k bs xs rest (sym q)).1
 
-      pub none_behind : no_service (take n out) ≡ true → ServicesAre s k n bs (Refused 11) × (out ≡ front (services_in k n bs) old)
-      unfolding after some_service
-      none_behind t = let u : no_service (begun read_service n bs) ≡ true = ap no_service (sym held) ∙ t in (led_are (Refused 11) z (λ S. rw (← q, u)), led_holds z h)
+      pub none_refused : no_service xs ≡ true → ServicesRefused 1 n bs 11
+      unfolding read_services some_service after
+      none_refused t = let z = part_got read_service bs size q in let u : no_service (begun read_service n bs) ≡ true = rw same t in record { refused = λ S e. rw (e, z, u) }
 
-      pub some_behind : (next : ℕ) → drop next s ≡ rest → no_service (take n out) ≡ false → ServicesAre s k n bs (Got next) × (out ≡ front (services_in k n bs) old)
-      unfolding after some_service
-      some_behind next d t =
-          let u : no_service (begun read_service n bs) ≡ false = ap no_service (sym held) ∙ t in
-          (led_are (Got next) z (λ S. rw (← q, u, d)), led_holds z h)
+      pub some_taken : no_service xs ≡ false → ServicesTaken 1 n bs rest
+      unfolding services_in read_services some_service after
+      some_taken t = let z = part_got read_service bs size q in let u : no_service (begun read_service n bs) ≡ false = rw same t in record { taken = λ S e. rw (e, z, u) }

@@ -1,2 +1,3 @@
 pub mod BehindLaws
+pub mod FormLaws
 pub mod ServeLaws

@@ -12,7 +12,7 @@ use Rattle.walks.proofs.FlatLaws.{flat_arcs, flat_append, length_flat, arcs_many
 use Rattle.sheet.proofs.PageLaws.{served_count}
 use Rattle.sheet.specs.Good.{All}
 use Rattle.sheet.specs.Page.{service_of, served_arc, served}
-use Rattle.sheet_services.specs.Services.{Servable, weight_in, WeightFits}
+use Rattle.sheet_services.specs.Services.{Servable}
 
 set_behind : (xs ys : List ℕ) (k v : ℕ) → set (xs ++ ys) (length xs + k) v ≡ xs ++ set ys k v
 set_behind [] ys k v = let e : 0 + k ≡ k = omega arith in ap (λ (i : ℕ). set ys i v) e
@@ -51,8 +51,9 @@ serving ss old m h a = record {
 
 -- the next arc: its weight can be added up, and is what is stored
 pub record Next (ss old : List ℕ) (m j : ℕ) (out : List ℕ) : Type 0 where
-  pub fits : WeightFits out j ss
-  pub stored : Serving ss old m (j + 1) (set out (j * 3 + 2) (weight_in out j ss))
+  pub head : get_or out (j * 3 + 1) 0 < length ss
+  pub sum : get_or out (j * 3 + 2) 0 + get_or ss (get_or out (j * 3 + 1) 0) 0 < 4294967296
+  pub stored : Serving ss old m (j + 1) (set out (j * 3 + 2) (get_or out (j * 3 + 2) 0 + get_or ss (get_or out (j * 3 + 1) 0) 0))
 
 module _ {ss old : List ℕ} {m j : ℕ} {out : List ℕ} (w : Serving ss old m j out) where
   count : length (arcs_in m old) ≡ m
@@ -91,7 +92,8 @@ module _ {ss old : List ℕ} {m j : ℕ} {out : List ℕ} (w : Serving ss old m 
           ap (λ (ys : List ℕ). set ys (j * 3 + 2) v) h ∙ ap (λ (i : ℕ). set (done ++ here) i v) i₂ ∙ set_behind done here 2 v
           ∙ sym (ap (◌++ rest) q ∙ append_assoc done (x.tail ∷ x.head ∷ v ∷ []) rest) in
           record {
-            fits = record { room = omega (arith, serve_kept, w.room); head = rw e₁ f.0.head; sum = rw (e₁, e₂) f.0.sum };
+            head = rw e₁ f.0.head;
+            sum = rw (e₁, e₂) f.0.sum;
             stored = rw (e₁, e₂) (record {
               room = w.room;
               before = w.before ++ (x ∷ []);

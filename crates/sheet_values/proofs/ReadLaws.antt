@@ -1,34 +1,16 @@
 -- Laws of the sheet's numbers and arcs, as a reader meets them: each result of one reading decides the next step. Assumes nothing.
-use Prim.Native.Nat.{ℕ, suc, ◌≤◌, ◌<◌}
+use Prim.Native.Nat.{ℕ, suc}
 use mathlib.Core.Path.{◌≡◌, refl, ap, sym, ◌∙◌}
 use mathlib.Core.List.{List}
 use mathlib.Core.Bool.{Bool, true, false, not, ◌&&◌}
 use lib.Dec.{ltb, leb, eqb, leb-suc-suc}
-use borrow.Author.Tests.{lt-ltb, le-ltb, ltb-true, eq-eqb, ne_eqb}
+use borrow.Author.Tests.{eq-eqb, ne_eqb}
 use Rattle.lists.specs.Lists.{pick}
-use Rattle.varint.proofs.VarintLaws.{number_got}
 use Rattle.varint.specs.Varint.{Read, got, refuse, after, read_number, number, judged}
 use Rattle.sheet.specs.Reader.{read_mark, read_service}
 
 abbrev pub under : ℕ → ℕ → Bool
 under end x = ltb x end
-
-module _ (bs : List ℕ) (why end : ℕ) where
-  pub number_fine : {x : ℕ} {rest : List ℕ} → got x rest ≡ read_number bs → x < end → got x rest ≡ number why (under end) bs
-  unfolding number after judged
-  number_fine e h = rw (← e) (simp (lt-ltb _ _ h))
-
-  pub number_wrong : {x : ℕ} {rest : List ℕ} → got x rest ≡ read_number bs → end ≤ x → refuse why ≡ number why (under end) bs
-  unfolding number after judged
-  number_wrong e h = rw (← e) (simp (le-ltb _ _ h))
-
-  pub number_not : {n : ℕ} → refuse n ≡ read_number bs → refuse n ≡ number why (under end) bs
-  unfolding number after
-  number_not e = rw (← e)
-
--- a number that passed its test
-pub number_below : (why end : ℕ) (bs : List ℕ) {x : ℕ} {rest : List ℕ} → got x rest ≡ number why (under end) bs → x < end
-number_below why end bs {x} {rest} e = ltb-true x end (number_got why (under end) bs x rest (sym e)).0
 
 -- two tests in turn are one
 after_and :
@@ -64,29 +46,29 @@ ends_then why last n k build bs =
     (λ a bs₁. after (number why (λ x. under n x && not (eqb x a)) bs₁) (λ b bs₂. after (number last (λ x. leb x k) bs₂) (λ c rest. got (build a b c) rest)))
 
 module _ {A : Type 0} (why last n k : ℕ) (build : ℕ → ℕ → ℕ → A) (bs : List ℕ) where
-  pub first_not : {e : ℕ} → refuse e ≡ number why (under n) bs → refuse e ≡ ends_then why last n k build bs
+  pub first_not : {e : ℕ} → number why (under n) bs ≡ refuse e → ends_then why last n k build bs ≡ refuse e
   unfolding after
-  first_not e = rw (← e)
+  first_not e = rw e
 
-  module _ {a : ℕ} {r₁ : List ℕ} (ea : got a r₁ ≡ number why (under n) bs) where
-    pub second_not : {e : ℕ} → refuse e ≡ number why (under n) r₁ → refuse e ≡ ends_then why last n k build bs
+  module _ {a : ℕ} {r₁ : List ℕ} (ea : number why (under n) bs ≡ got a r₁) where
+    pub second_not : {e : ℕ} → number why (under n) r₁ ≡ refuse e → ends_then why last n k build bs ≡ refuse e
     unfolding after
-    second_not e = rw (← ea, number_and why (under n) (λ x. not (eqb x a)) r₁, ← e)
+    second_not e = rw (ea, number_and why (under n) (λ x. not (eqb x a)) r₁, e)
 
-    module _ {b : ℕ} {r₂ : List ℕ} (eb : got b r₂ ≡ number why (under n) r₁) where
-      pub second_same : b ≡ a → refuse why ≡ ends_then why last n k build bs
+    module _ {b : ℕ} {r₂ : List ℕ} (eb : number why (under n) r₁ ≡ got b r₂) where
+      pub second_same : b ≡ a → ends_then why last n k build bs ≡ refuse why
       unfolding after judged
-      second_same q = rw (← ea, number_and why (under n) (λ x. not (eqb x a)) r₁, ← eb, eq-eqb _ _ q)
+      second_same q = rw (ea, number_and why (under n) (λ x. not (eqb x a)) r₁, eb, eq-eqb _ _ q)
 
       module _ (q : b ≡ a → ⊥) where
         from_second : ends_then why last n k build bs ≡ after (number last (under (suc k)) r₂) (λ c rest. got (build a b c) rest)
         unfolding after judged
-        from_second = rw (← ea, number_and why (under n) (λ x. not (eqb x a)) r₁, ← eb, ne_eqb _ _ q, number_most last k r₂)
+        from_second = rw (ea, number_and why (under n) (λ x. not (eqb x a)) r₁, eb, ne_eqb _ _ q, number_most last k r₂)
 
-        pub third_not : {e : ℕ} → refuse e ≡ number last (under (suc k)) r₂ → refuse e ≡ ends_then why last n k build bs
+        pub third_not : {e : ℕ} → number last (under (suc k)) r₂ ≡ refuse e → ends_then why last n k build bs ≡ refuse e
         unfolding after
-        third_not e = sym (from_second ∙ rw (← e))
+        third_not e = from_second ∙ rw e
 
-        pub third_read : {c : ℕ} {r₃ : List ℕ} → got c r₃ ≡ number last (under (suc k)) r₂ → got (build a b c) r₃ ≡ ends_then why last n k build bs
+        pub third_read : {c : ℕ} {r₃ : List ℕ} → number last (under (suc k)) r₂ ≡ got c r₃ → ends_then why last n k build bs ≡ got (build a b c) r₃
         unfolding after
-        third_read e = sym (from_second ∙ rw (← e))
+        third_read e = from_second ∙ rw e

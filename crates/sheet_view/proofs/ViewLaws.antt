@@ -1,19 +1,21 @@
 -- Laws of the arc view: the bytes after so many numbers, as they are passed over, the part between two positions, and where it stands. Assumes nothing.
 use Prim.Native.Nat.{ℕ, zero, suc, ◌+◌, ◌-◌, ◌*◌, ◌≤◌, ◌<◌}
 use mathlib.Core.Path.{◌≡◌, refl, ap, sym, ◌∙◌}
-use mathlib.Core.List.{List, [], ◌∷◌}
-use mathlib.Core.Bool.{Bool, true, false, ◌&&◌}
+use mathlib.Core.List.{List, [], ◌∷◌, ◌++◌, append_assoc, append-nil}
+use mathlib.Core.Bool.{Bool}
 use native.Mathlib.Omega.{arith}
-use lib.Dec.{ltb, eqb}
-use lib.ListN.{length, take, drop, length-drop, drop_of_length-le}
+use lib.Dec.{ltb}
+use lib.ListN.{length, take, drop, length-append}
 use borrow.Author.Tests.{lt-ltb, le-ltb}
+use Rattle.std.specs.Prelude.{Ok}
+use Rattle.std.proofs.Math.Seq.{drop-append_seam}
 use Rattle.lists.specs.Lists.{pick}
-use Rattle.varint.specs.Varint.{Read, got, refuse, after, last_group, above, read_groups, read_number, several}
+use Rattle.varint.proofs.VarintLaws.{number_front}
+use Rattle.varint.specs.Varint.{Read, got, refuse, after, read_groups, read_number, several}
 use Rattle.sheet.specs.Sheet.{Sheet, header_of}
-use Rattle.sheet.specs.Reader.{rest_of, past, content, taken}
+use Rattle.sheet.specs.Reader.{rest_of, past, lead, content, taken}
 use Rattle.sheet.specs.ArcView.{bytes_of, for_arc, arc_view, place_of}
 use Rattle.sheet.specs.declared.Header.{Header}
-use Rattle.sheet_reader.specs.declared.SheetRead.TheVariants.{Got, Refused}
 use Rattle.sheet_reader.specs.Answer.{answered}
 
 -- what is left after several values
@@ -43,76 +45,68 @@ unfolding past several
 past_several zero bs = refl
 past_several (suc k) bs = past_first k (several read_number k) (read_number bs) (past_several k)
 
+past_is : (k : ℕ) (bs : List ℕ) {r : Read (List ℕ)} → several read_number k bs ≡ r → past k bs ≡ rest_all r
+past_is k bs e = past_several k bs ∙ ap rest_all e
+
 module _ (k : ℕ) (bs : List ℕ) where
-  pub past_read : {xs rest : List ℕ} → got xs rest ≡ several read_number k bs → rest ≡ past k bs
-  past_read e = sym (past_several k bs ∙ ap rest_all (sym e))
+  pub past_read : {xs rest : List ℕ} → several read_number k bs ≡ got xs rest → rest ≡ past k bs
+  past_read e = sym (past_is k bs e)
 
-  pub past_refused : (s : List ℕ) {e : ℕ} → refuse e ≡ several read_number k bs → drop (length s) s ≡ past k bs
-  past_refused s e = let h : length s ≤ length s = omega arith in drop_of_length-le s h ∙ sym (past_several k bs ∙ ap rest_all (sym e))
+  pub past_refused : {e : ℕ} → several read_number k bs ≡ refuse e → [] ≡ past k bs
+  past_refused e = sym (past_is k bs e)
 
--- a number leaves fewer bytes
-rest_last : (left b : ℕ) (bs : List ℕ) → length (rest_of (last_group left b bs)) ≤ length bs
-unfolding last_group rest_of
-rest_last left b bs = go (eqb b 0 && ltb left 3)
+-- r is an end of s
+pub record End (s r : List ℕ) : Type 0 where
+  pub front : List ℕ
+  pub parts : s ≡ front ++ r
+
+end_all : (s : List ℕ) → End s s
+end_all s = record { front = []; parts = refl }
+
+end_of : {s r q : List ℕ} → End s r → End r q → End s q
+end_of {s} {r} {q} a b = record { front = a.front ++ b.front; parts = a.parts ∙ ap (a.front ++◌) b.parts ∙ sym (append_assoc a.front b.front q) }
+
+-- what is left of some bytes is their end
+end_rest : (bs : List ℕ) → End bs (rest_of (read_number bs))
+unfolding rest_of
+end_rest bs = go (read_number bs) refl
   where
-    go : (t : Bool) → length (rest_of (pick t (refuse 4) (got b bs))) ≤ length bs
-    go true = omega arith
-    go false = omega arith
+    go : (r : Read ℕ) → read_number bs ≡ r → End bs (rest_of r)
+    go (got x rest) e = let f = number_front bs x rest e in record { front = f.bytes; parts = f.parts }
+    go (refuse e) q = record { front = bs; parts = sym (append-nil bs) }
 
-rest_above : (b : ℕ) (r : Read ℕ) → rest_of (above b r) ≡ rest_of r
-unfolding above rest_of
-rest_above b (got x bs) = refl
-rest_above b (refuse e) = refl
+end_past : (k : ℕ) (bs : List ℕ) → End bs (past k bs)
+unfolding past
+end_past zero bs = end_all bs
+end_past (suc k) bs = end_of (end_rest bs) (end_past k (rest_of (read_number bs)))
 
-rest_groups : (left : ℕ) (bs : List ℕ) → length (rest_of (read_groups left bs)) ≤ length bs
-unfolding read_groups rest_of
-rest_groups zero [] = omega arith
-rest_groups (suc left) [] = omega arith
-rest_groups zero (b ∷ bs) = go (ltb b 128)
-  where
-    go : (t : Bool) → length (rest_of (pick t (last_group zero b bs) (refuse 4))) ≤ suc (length bs)
-    go true = omega (arith, rest_last zero b bs)
-    go false = omega arith
-rest_groups (suc left) (b ∷ bs) = go (ltb b 128) (rest_groups left bs)
-  where
-    go :
-        (t : Bool) → length (rest_of (read_groups left bs)) ≤ length bs
-        → length (rest_of (pick t (last_group (suc left) b bs) (above b (read_groups left bs)))) ≤ suc (length bs)
-    go true h = omega (arith, rest_last (suc left) b bs)
-    go false h = rw (rest_above b (read_groups left bs)) (omega arith)
+module _ {s r : List ℕ} (e : End s r) where
+  end_size : length e.front + length r ≡ length s
+  end_size = sym (ap length e.parts ∙ length-append e.front r)
 
-past_shorter : (k : ℕ) (bs : List ℕ) → length (past k bs) ≤ length bs
-unfolding past read_number
-past_shorter zero bs = omega arith
-past_shorter (suc k) bs = omega (arith, past_shorter k (rest_of (read_groups 3 bs)), rest_groups 3 bs)
+  pub shorter : length r ≤ length s
+  shorter = omega (arith, end_size)
 
--- two positions of a list, k numbers apart
-module _ (s : List ℕ) (k from to : ℕ) (e : drop to s ≡ past k (drop from s)) (f : from ≤ length s) (t : to ≤ length s) where
-  pub in_order : from ≤ to
-  in_order = omega (arith, past_shorter k (drop from s), ap length e, length-drop to s, length-drop from s)
-
-  between : take (to - from) (drop from s) ≡ bytes_of k (drop from s)
-  unfolding bytes_of
-  between =
-      let n : length (drop from s) - length (past k (drop from s)) ≡ to - from = omega (arith, ap length e, length-drop to s, length-drop from s) in
-      ap (λ (i : ℕ). take i (drop from s)) (sym n)
+  end_at : drop (length s - length r) s ≡ r
+  end_at =
+      let n : length s - length r ≡ length e.front = omega (arith, end_size) in
+      rw n (ap (drop (length e.front)) e.parts ∙ drop-append_seam e.front r)
 
 -- what is there for an arc that the answer does not have, and for one that it has
 module _ {A : Type 0} (l : ℕ) (x y : A) where
-  not_taken : (r : Read Sheet) {e : ℕ} → Refused e ≡ answered r → for_arc r l x y ≡ y
-  unfolding answered for_arc
-  not_taken (got S rest) q = absurd (let z : ◌≡◌ {A = ℕ} 0 1 = cc in omega arith)
-  not_taken (refuse e) q = refl
+  not_taken : (r : Read Sheet) {e : ℕ} → r ≡ refuse e → for_arc r l x y ≡ y
+  unfolding for_arc
+  not_taken r q = rw q
 
-  taken_has : (r : Read Sheet) {h : Header} → Got h ≡ answered r → for_arc r l x y ≡ pick (ltb l h.arcs) x y
+  taken_has : (r : Read Sheet) {h : Header} → answered r ≡ Ok h → for_arc r l x y ≡ pick (ltb l h.arcs) x y
   unfolding answered for_arc header_of
   taken_has (got S rest) {h} q =
-      let z : h ≡ header_of S = cc in
-      let n : h.arcs ≡ length S.graph.arcs = ap (λ (x : Header). x.arcs) z in
-      ap (λ (i : ℕ). pick (ltb l i) x y) (sym n)
+      let z : header_of S ≡ h = cc in
+      let n : length S.graph.arcs ≡ h.arcs = ap (λ (x : Header). x.arcs) z in
+      ap (λ (i : ℕ). pick (ltb l i) x y) n
   taken_has (refuse e) q = absurd (let z : ◌≡◌ {A = ℕ} 0 1 = cc in omega arith)
 
-  module _ (r : Read Sheet) {h : Header} (q : Got h ≡ answered r) where
+  module _ (r : Read Sheet) {h : Header} (q : answered r ≡ Ok h) where
     arc_there : l < h.arcs → for_arc r l x y ≡ x
     arc_there n = taken_has r q ∙ ap (λ (t : Bool). pick t x y) (lt-ltb l h.arcs n)
 
@@ -127,19 +121,30 @@ module _ (s : List ℕ) (l base : ℕ) where
   here : {place : ℕ} {view : List ℕ} → place_of s l ≡ place → arc_view s l ≡ view → Here place view
   here a b = (ap (◌+ base) (sym a), sym b)
 
-  pub view_refused : {e : ℕ} → Refused e ≡ answered (taken s) → Here 0 []
+  pub view_refused : {e : ℕ} → taken s ≡ refuse e → Here 0 []
   unfolding arc_view place_of
   view_refused q = here (not_taken l _ _ (taken s) q) (not_taken l _ _ (taken s) q)
 
-  module _ {h : Header} (q : Got h ≡ answered (taken s)) where
+  module _ {h : Header} (q : answered (taken s) ≡ Ok h) where
     pub view_none : h.arcs ≤ l → Here 0 []
     unfolding arc_view place_of
     view_none n = here (no_arc l _ _ (taken s) q n) (no_arc l _ _ (taken s) q n)
 
-    pub view_part :
-        {from to : ℕ} → l < h.arcs → drop from s ≡ past (5 + 3 * l) (content s) → drop to s ≡ past 3 (drop from s) → from ≤ length s → to ≤ length s
-        → Here from (take (to - from) (drop from s))
-    unfolding arc_view place_of
-    view_part {from} {to} n a b f t =
-        let e : length s - length (past (5 + 3 * l) (content s)) ≡ from = omega (arith, ap length a, length-drop from s) in
-        here (arc_there l _ _ (taken s) q n ∙ e) (arc_there l _ _ (taken s) q n ∙ sym (between s 3 from to b f t ∙ ap (bytes_of 3) a))
+    module _ {cs from behind : List ℕ} (c : cs ≡ content s) (f : from ≡ past (5 + 3 * l) cs) (b : behind ≡ past 3 from) where
+      ends_from : End s from
+      unfolding content
+      ends_from = rw (f, c) (end_of (end_past (lead s) s) (end_past (5 + 3 * l) (content s)))
+
+      ends_behind : End from behind
+      ends_behind = rw b (end_past 3 from)
+
+      pub in_order : (length behind ≤ length from) × (length from ≤ length s)
+      in_order = (shorter ends_behind, shorter ends_from)
+
+      pub view_part : l < h.arcs → Here (length s - length from) (take (length s - length behind - (length s - length from)) (drop (length s - length from) s))
+      unfolding arc_view place_of bytes_of
+      view_part n =
+          let g : past (5 + 3 * l) (content s) ≡ from = sym (f ∙ ap (past (5 + 3 * l)) c) in
+          let m : length s - length behind - (length s - length from) ≡ length from - length behind = omega (arith, in_order.0, in_order.1) in
+          let d : drop (length s - length from) s ≡ from = end_at ends_from in
+          here (arc_there l _ _ (taken s) q n ∙ rw g) (arc_there l _ _ (taken s) q n ∙ rw (g, m, d, b))

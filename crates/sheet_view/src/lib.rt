@@ -1,13 +1,13 @@
-// The arc view, document 01's leg view ('The operations and what they refuse').
+// The arc view: the part of a sheet that holds an arc's three numbers.
 
 #![tactic(auto)]
 
-ghost use Rattle.std.specs.Prelude.{◌≡◌, ◌+◌, ◌*◌, ◌≤◌, length, drop};
+ghost use Rattle.std.specs.Prelude.{◌≡◌, ◌+◌};
 ghost use Rattle.sheet.specs.ArcView.{arc_view, place_of};
 ghost use Rattle.sheet.specs.Reader.{past};
 
-use numbers::SectionRead;
-use sheet_reader::SheetRead;
+use numbers::section;
+use varint::Bytes;
 use walks::{ARC_NUMBERS, ITEMS};
 
 // How many numbers stand in the header of a sheet's content, and for each arc.
@@ -15,19 +15,19 @@ const HEADER_NUMBERS: usize = 5;
 
 const NUMBERS_EACH: usize = 3;
 
-// The position after `count` numbers that stand from `from` on; the end of the sheet where they cannot be read.
-fn past_numbers(sheet: &[u8], from: usize, count: usize) -> usize
-    requires { from ≤ length sheet.now }
-    ensures { (drop result sheet.now ≡ past count (drop from sheet.now)) × (result ≤ length sheet.now) }
+// The bytes after `count` numbers; none where these cannot be read.
+fn past_numbers(bytes: &[u8], count: usize) -> &[u8]
+    ensures { result.now ≡ past count bytes.now }
 {
-    match numbers::skip_numbers(sheet, from, count) {
-        SectionRead::Got(next) => next,
-        SectionRead::Refused(_) => sheet.len(),
+    let mut left = Bytes { rest: bytes };
+    match section::skip_numbers(&mut left, count) {
+        Ok(()) => left.rest,
+        Err(_) => &[],
     }
 }
 
-// The part of the sheet that holds the three numbers of the arc; empty, at the sheet's front, where the sheet is refused or has no such arc (document
-// 01: leg view). The contract fixes the place, and so no other part that holds the same bytes will do.
+// The part of the sheet that holds the three numbers of the arc; empty, at the sheet's front, where the sheet is refused or has no such arc. The contract
+// fixes the place, and so no other part that holds the same bytes will do.
 pub fn arc_view(sheet: &[u8], arc: u32) -> &[u8]
     ensures lies_in_sheet { (result.ref_ptr.0 ≡ sheet.entry.ref_ptr.0) × (result.ref_ptr.1 ≡ place_of sheet.now arc + sheet.entry.ref_ptr.1) }
     ensures bytes_of_arc { result.now ≡ arc_view sheet.now arc }
@@ -35,15 +35,15 @@ pub fn arc_view(sheet: &[u8], arc: u32) -> &[u8]
     let mut arcs = [0u32; ARC_NUMBERS];
     let mut marks = [0u8; ITEMS];
     let header = match sheet_reader::read(sheet, &mut arcs, &mut marks) {
-        SheetRead::Got(header) => header,
-        SheetRead::Refused(_) => return &sheet[0..0],
+        Ok(header) => header,
+        Err(_) => return &sheet[0..0],
     };
     let earlier = arc as usize;
     if header.arcs <= earlier {
         return &sheet[0..0];
     }
-    let start = sheet_services::content_at(sheet);
-    let from = past_numbers(sheet, start, HEADER_NUMBERS + NUMBERS_EACH * earlier);
-    let to = past_numbers(sheet, from, NUMBERS_EACH);
-    &sheet[from..to]
+    let (_, content) = sheet_services::lead_and_content(sheet);
+    let from = past_numbers(content, HEADER_NUMBERS + NUMBERS_EACH * earlier);
+    let behind = past_numbers(from, NUMBERS_EACH);
+    &sheet[sheet.len() - from.len()..sheet.len() - behind.len()]
 }

@@ -1,12 +1,10 @@
--- What the answers of the slip's reader stand for in document 01.
-use Rattle.std.specs.Prelude.{ℕ, ◌≡◌, List, [], ◌∷◌, length, drop}
-use Rattle.varint.specs.Varint.{Read, got, refuse, read_number, write_numbers}
+-- What the forms of the slip's reader stand for.
+use Rattle.std.specs.Prelude.{ℕ, ◌&&◌, List, ◌∷◌, length, leb}
+use Rattle.varint.specs.Varint.{Read, after, number, read_number, write_numbers}
 use Rattle.numbers.specs.Begun.{begun}
-use Rattle.sheet.specs.Slip.{Slip, slip_goals, as17}
-use Rattle.slip_reader.specs.declared.ListRead.{ListRead}
-use Rattle.slip_reader.specs.declared.ListRead.TheVariants.{Got as ListGot, Refused as ListRefused}
-use Rattle.slip_reader.specs.declared.SlipRead.{SlipRead}
-use Rattle.slip_reader.specs.declared.SlipRead.TheVariants.{Got as SlipGot, Refused as SlipRefused}
+use Rattle.sheet.specs.Slip.{Slip, slip_goals}
+use Rattle.slip_reader.specs.declared.form.NumberList.{NumberList}
+use Rattle.slip_reader.specs.declared.form.SlipForm.{SlipForm}
 
 abbrev pub slip_from : ℕ → List ℕ → List ℕ → Slip
 slip_from first goals reasons = record { first = first; goals = goals; reasons = reasons }
@@ -15,29 +13,14 @@ slip_from first goals reasons = record { first = first; goals = goals; reasons =
 unfoldable pub list_bytes : List ℕ → List ℕ
 list_bytes xs = write_numbers (length xs ∷ xs)
 
--- the numbers of a list of the slip s, `count` of them from `at` on
-abbrev pub values_at : List ℕ → ℕ → ℕ → List ℕ
-values_at s count at = begun read_number count (drop at s)
+-- the numbers of a list
+abbrev pub numbers_in : NumberList → List ℕ
+numbers_in l = begun read_number l.count l.bytes.now
 
-abbrev pub list_of : List ℕ → ListRead → Read (List ℕ)
-list_of s (ListGot count from next) = got (values_at s count from) (drop next s)
-list_of s (ListRefused e) = refuse e
+-- the slip that was read
+abbrev pub slip_in : SlipForm → Slip
+slip_in f = slip_from f.first (numbers_in f.goals) (numbers_in f.reasons)
 
--- so many numbers as it is said are there
-abbrev pub ListCount : List ℕ → ListRead → Type 0
-ListCount s (ListGot count from next) = length (values_at s count from) ≡ count
-ListCount s (ListRefused e) = Unit {0}
-
--- goals and reasons, every fault a 17
-unfoldable pub lists_of : ℕ → List ℕ → Read Slip
-lists_of v bs = as17 (slip_goals v bs)
-
--- a well written slip, or the refusal 17
-abbrev pub slip_of : List ℕ → SlipRead → Read Slip
-slip_of s (SlipGot f) = got (slip_from f.first (values_at s f.goals f.goals_at) (values_at s f.reasons f.reasons_at)) []
-slip_of s SlipRefused = refuse 17
-
--- so many goals and reasons as it is said are there
-abbrev pub SlipCounts : List ℕ → SlipRead → Type 0
-SlipCounts s (SlipGot f) = (length (values_at s f.goals f.goals_at) ≡ f.goals) × (length (values_at s f.reasons f.reasons_at) ≡ f.reasons)
-SlipCounts s SlipRefused = Unit {0}
+-- a slip as it is read, up to the first fault; `read_slip` gives each fault the one number for a badly written slip
+unfoldable pub read_parts : List ℕ → Read Slip
+read_parts bs = after (number 17 (λ x. leb 1 x && leb x 4) bs) slip_goals

@@ -1,94 +1,76 @@
-// How a slip is written (document 01, 'Sheet and slip'): judged for check.
+// How a slip is written (docs/FORMATS.md, 'The slip'): judged for check.
 
 #![tactic(auto)]
 
-ghost use Rattle.std.specs.Prelude.{◌≡◌, drop};
+ghost use Rattle.std.specs.Prelude.{◌≡◌, ◌≤◌, [], length, IfOk, IfErr};
+ghost use Rattle.varint.specs.Varint.{got, refuse};
+ghost use Rattle.varint.specs.Refusal.{number_of};
+ghost use Rattle.varint.specs.declared.refusal.Refusal.TheVariants.{BadSlip};
 ghost use Rattle.sheet.specs.Slip.{read_list, read_slip};
-ghost use Rattle.slip_reader.specs.Form.{list_of, ListCount, lists_of, slip_of, SlipCounts};
+ghost use Rattle.slip_reader.specs.Form.{numbers_in, slip_in, read_parts};
 
-use numbers::SectionRead;
-use varint::Number;
+pub mod form;
 
-// A list in a slip: its count, where its numbers stand and the position after them; or the fault in its writing.
-#[derive(Clone, Copy)]
-pub enum ListRead {
-    Got(u32, usize, usize),
-    Refused(u32),
-}
+pub use form::{NumberList, SlipForm};
+use numbers::section;
+use numbers::section::Indices;
+use varint::{Bytes, Refusal};
 
-// Judges the list at `at`: a count, and as many numbers.
-fn list_at(slip: &[u8], at: usize) -> ListRead
-    ensures list_told { list_of slip.now result ≡ read_list (drop at slip.now) }
-    ensures as_many_as_said { ListCount slip.now result }
-{
-    match varint::number_at(slip, at) {
-        Number::Got(count, from) => match numbers::skip_numbers(slip, from, count as usize) {
-            SectionRead::Got(next) => ListRead::Got(count, from, next),
-            SectionRead::Refused(why) => ListRead::Refused(why),
-        },
-        Number::Ends => ListRead::Refused(3),
-        Number::Overlong => ListRead::Refused(4),
+impl NumberList<'_> {
+    // Reads the numbers over the front of `out`, and gives them back.
+    pub fn read<'b>(&self, out: &'b mut [usize]) -> &'b [usize]
+        requires { self.now.count ≤ length out.old }
+        ensures { result.now ≡ numbers_in self.now }
+    {
+        let listed = &mut out[..self.count as usize];
+        let _ = section::read_all(&Indices, &mut Bytes { rest: self.bytes }, listed);
+        listed
     }
 }
 
-// A slip that is well written: its first number, how many goals and reasons it has and where they stand.
-#[derive(Clone, Copy)]
-pub struct SlipForm {
-    pub first: u32,
-    pub goals: u32,
-    pub goals_at: usize,
-    pub reasons: u32,
-    pub reasons_at: usize,
-}
-
-// A well written slip, or one that draws 17.
-#[derive(Clone, Copy)]
-pub enum SlipRead {
-    Got(SlipForm),
-    Refused,
-}
-
-// Judges the goals and the reasons, which stand from `at` on.
-fn read_lists(slip: &[u8], first: u32, at: usize) -> SlipRead
-    ensures lists_told { slip_of slip.now result ≡ lists_of first (drop at slip.now) }
-    ensures slip_counts { SlipCounts slip.now result }
+// Takes a list: a count, and as many numbers.
+#[tactic(auto, unfolding(sheet::specs::Slip::read_list, varint::specs::Varint::after))]
+fn take_list<'a>(bytes: &mut Bytes<'a>) -> Result<NumberList<'a>, Refusal>
+    ensures got { IfOk result (λ list. read_list bytes.old.rest.now ≡ got (numbers_in list) bytes.new.rest.now) }
+    ensures refused { IfErr result (λ why. read_list bytes.old.rest.now ≡ refuse (number_of why)) }
 {
-    match list_at(slip, at) {
-        ListRead::Got(goals, goals_at, next) => match list_at(slip, next) {
-            ListRead::Got(reasons, reasons_at, end) => {
-                if end < slip.len() {
-                    return SlipRead::Refused;
-                }
-                SlipRead::Got(SlipForm {
-                    first: first,
-                    goals: goals,
-                    goals_at: goals_at,
-                    reasons: reasons,
-                    reasons_at: reasons_at,
-                })
-            }
-            ListRead::Refused(_) => SlipRead::Refused,
-        },
-        ListRead::Refused(_) => SlipRead::Refused,
-    }
+    let count = bytes.take_number()?;
+    let listed = bytes.rest;
+    section::skip_numbers(bytes, count as usize)?;
+    Ok(NumberList {
+        count,
+        bytes: listed,
+    })
 }
 
-// Judges how a slip is written. `numbers::numbers_at` then reads its goals and its reasons from where they stand.
-pub fn judge_slip(slip: &[u8]) -> SlipRead
-    ensures slip_told { slip_of slip.now result ≡ read_slip slip.now }
-    ensures slip_counts { SlipCounts slip.now result }
+// Reads the first number and the two lists, up to the first fault.
+#[tactic(auto, unfolding(crate::specs::Form::read_parts, varint::specs::Varint::number, varint::specs::Varint::judged, varint::specs::Varint::after, sheet::specs::Slip::slip_goals, sheet::specs::Slip::slip_reasons, sheet::specs::Slip::slip_end))]
+fn read_form(slip: &[u8]) -> Result<SlipForm, Refusal>
+    ensures got { IfOk result (λ form. read_parts slip.now ≡ got (slip_in form) []) }
+    ensures refused { IfErr result (λ why. read_parts slip.now ≡ refuse (number_of why)) }
 {
-    match varint::number_at(slip, 0) {
-        Number::Got(first, at) => {
-            if first < 1 {
-                return SlipRead::Refused;
-            }
-            if 4 < first {
-                return SlipRead::Refused;
-            }
-            read_lists(slip, first, at)
-        }
-        Number::Ends => SlipRead::Refused,
-        Number::Overlong => SlipRead::Refused,
+    let mut bytes = Bytes { rest: slip };
+    let first = bytes.take_number()?;
+    if first < 1 || 4 < first {
+        return Err(Refusal::BadSlip);
     }
+    let goals = take_list(&mut bytes)?;
+    let reasons = take_list(&mut bytes)?;
+    if !bytes.rest.is_empty() {
+        return Err(Refusal::BadSlip);
+    }
+    Ok(SlipForm {
+        first,
+        goals,
+        reasons,
+    })
+}
+
+// Judges how a slip is written; whatever is wrong with it, the refusal is the one for a badly written slip.
+#[tactic(auto, unfolding(sheet::specs::Slip::read_slip, sheet::specs::Slip::as17, crate::specs::Form::read_parts))]
+pub fn judge_slip(slip: &[u8]) -> Result<SlipForm, Refusal>
+    ensures got { IfOk result (λ form. read_slip slip.now ≡ got (slip_in form) []) }
+    ensures refused { IfErr result (λ why. (why ≡ BadSlip) × (read_slip slip.now ≡ refuse 17)) }
+{
+    read_form(slip).map_err(|_| Refusal::BadSlip)
 }

@@ -1,4 +1,4 @@
-// The slip of a refused round or a struck item (document 01, 'Sheet and slip'): written for pass and reason.
+// The slip of a refused round or a struck item (docs/FORMATS.md, 'The slip'): written for pass and reason.
 
 #![tactic(auto)]
 
@@ -17,7 +17,7 @@ fn put_goals(out: &mut [u8], goals: &[usize]) -> usize
     at + numbers::put_indices(&mut out[at..], goals)
 }
 
-// Writes the count of the reasons and the reasons.
+// Writes the count of the reasons and the reasons. Not one function with `put_goals`: the numbers of both are lent as lists of different types.
 fn put_reasons(out: &mut [u8], reasons: &[u32]) -> usize
     requires { (small (length reasons.now ∷ reasons.now) ≡ true) × (length (list_bytes reasons.now) ≤ length out.old) }
     ensures { Put (list_bytes reasons.now) out.old out.new result }

@@ -1,18 +1,17 @@
 -- Laws of the base that a store shows: compared with a sheet's, and written; and of a slip put behind the others. Assumes nothing.
 use Prim.Native.Nat.{ℕ, suc, zero, ◌+◌, ◌*◌, ◌<◌, min}
 use mathlib.Core.Path.{◌≡◌, refl, sym, ap, ◌∙◌}
-use mathlib.Core.Bool.{Bool, true, false, ◌&&◌, true≢false}
+use mathlib.Core.Bool.{Bool, true, false, false≢true}
 use mathlib.Core.List.{List, [], ◌∷◌, ◌++◌, map}
 use native.Mathlib.Omega.{arith}
 use native.Mathlib.Numerals.{add-one}
-use lib.ListN.{length, take, set}
-use lib.Seq.{take_at, take-suc-set, length-take-le}
-use borrow.Author.Tests.{eq-eqb}
-use Rattle.lists.proofs.EntryLaws.{alike_exact}
+use lib.ListN.{length, take, set, length-take}
+use Rattle.std.specs.Prelude.{IsTrue, ◌↔◌}
+use lib.Seq.{take_at, take-suc-set}
 use Rattle.lists.proofs.TestLaws.{false_of}
-use Rattle.lists.specs.Lists.{alike, front}
+use Rattle.lists.specs.Lists.{front}
 use Rattle.walks.proofs.FlatLaws.{flat_arcs}
-use Rattle.walks.specs.Flat.{arcs_of, flat}
+use Rattle.walks.specs.Flat.{arcs_of, flat, graph_of}
 use Rattle.sheet.specs.declared.Header.{Header}
 use Rattle.sheet.specs.Sheet.{Sheet}
 use Rattle.sheet_reader.specs.Loaded.{LoadedPage}
@@ -25,46 +24,39 @@ use Rattle.store.specs.declared.Store.{Store}
 use Rattle.store.specs.Held.{base_from, base_in, held_in, slips_in, shelf_of}
 use Rattle.store.specs.Steps.{Based}
 
--- bases that differ in something are not the same
-pub differs : {A : Type 0} (f : Base → A) (a b : Base) → (f a ≡ f b → ⊥) → false ≡ same_base a b
-differs f a b q = sym (false_of (same_base a b) (λ t. q (sym (ap f ((same_base_exact a b).0 t)))))
+-- a list cut to the room there is
+pub cut : {A : Type 0} (xs : List A) (k m n : ℕ) → length xs ≡ m → n ≡ min k m → take n xs ≡ take k xs
+cut xs k m n l e = ap (λ (i : ℕ). take i xs) (e ∙ ap (min k) (sym l)) ∙ take_least k xs
 
--- the numbers that count, n of those that are there where k are told
-module _ (xs : List ℕ) (k : ℕ) {n : ℕ} (e : n ≡ min k (length xs)) where
-  cut_are : take n xs ≡ take k xs
-  cut_are = ap (λ (i : ℕ). take i xs) e ∙ take_least k xs
+-- a store's base is a sheet's where the numbers that count are the same
+module _ (s : Store) (h : Header) (arcs services : List ℕ) (l : length s.legs ≡ 1536) (n : length arcs ≡ 3 * h.arcs) where
+  abbrev pub SameNumbers : Type 0
+  SameNumbers = (s.nodes ≡ h.nodes) × (s.source ≡ h.source) × (s.target ≡ h.target) × (take s.nodes s.services ≡ services) × (take (3 * s.arcs) s.legs ≡ arcs)
 
-  pub cut_counted : n ≡ length (take n xs)
-  cut_counted = sym (length-take-le n xs (omega arith))
-
--- so many of a store's service minutes and of its legs' numbers
-pub services_cut : (s : Store) {n : ℕ} → length s.services ≡ 64 → n ≡ min s.nodes 64 → n ≡ min s.nodes (length s.services)
-services_cut s l c = c ∙ ap (min s.nodes) (sym l)
-
-pub legs_cut : (s : Store) {n : ℕ} → length s.legs ≡ 1536 → n ≡ min s.arcs 512 → 3 * n ≡ min (3 * s.arcs) (length s.legs)
-legs_cut s l c = rw l (omega arith)
-
-module _ (s : Store) (h : Header) (arcs services : List ℕ) {n : ℕ} (u : n ≡ min s.nodes (length s.services)) where
-  pub other_services : alike (take n s.services) services ≡ false → false ≡ same_base (base_in s) (base_from h arcs services)
+  same_from : SameNumbers → base_from h arcs services ≡ base_in s
   unfolding base_in
-  other_services f =
-      differs (λ (B : Base). B.services) (base_in s) (base_from h arcs services)
-      (λ q. true≢false (sym ((alike_exact (take n s.services) services).1 (cut_are s.services s.nodes u ∙ q)) ∙ f))
+  same_from e = ap {B = Base} (λ (x : ℕ). record { graph = graph_of x arcs; services = services; source = h.source; target = h.target }) (sym e.0)
+      ∙ ap {B = Base} (λ (x : ℕ). record { graph = graph_of s.nodes arcs; services = services; source = x; target = h.target }) (sym e.1)
+      ∙ ap {B = Base} (λ (x : ℕ). record { graph = graph_of s.nodes arcs; services = services; source = s.source; target = x }) (sym e.2)
+      ∙ ap {B = Base} (λ (x : List ℕ). record { graph = graph_of s.nodes arcs; services = x; source = s.source; target = s.target }) (sym e.3)
+      ∙ ap {B = Base} (λ (x : List ℕ). record { graph = graph_of s.nodes x; services = take s.nodes s.services; source = s.source; target = s.target }) (sym e.4)
 
-  -- the nodes, the service minutes, source and target being the same, the legs tell
-  pub same_legs : s.nodes ≡ h.nodes → s.source ≡ h.source → s.target ≡ h.target → alike (take n s.services) services ≡ true
-      → length arcs ≡ 3 * h.arcs → (m : ℕ) → 3 * m ≡ min (3 * s.arcs) (length s.legs) → {r : Bool} → r ≡ alike (take (3 * m) s.legs) arcs
-      → r ≡ same_base (base_in s) (base_from h arcs services)
-  unfolding same_base base_in
-  same_legs p q t v a m c e =
-      let f : flat (arcs_of (take (3 * s.arcs) s.legs)) ≡ take (3 * m) s.legs =
-      ap (λ (xs : List ℕ). flat (arcs_of xs)) (sym (cut_are s.legs (3 * s.arcs) c)) ∙ flat_arcs (take (3 * m) s.legs) m (sym (cut_counted s.legs (3 * s.arcs) c)) in
-      rw (eq-eqb s.nodes h.nodes p, eq-eqb s.source h.source q, eq-eqb s.target h.target t, ← cut_are s.services s.nodes u, v, f, flat_arcs arcs h.arcs a)
-      (e ∙ sym (and_yes (alike (take (3 * m) s.legs) arcs)))
-    where
-      and_yes : (b : Bool) → (b && true) ≡ b
-      and_yes true = refl
-      and_yes false = refl
+  same_back : base_from h arcs services ≡ base_in s → SameNumbers
+  unfolding base_in
+  same_back e =
+      let legs = take (3 * s.arcs) s.legs in
+      let c : length legs ≡ 3 * min s.arcs 512 = length-take (3 * s.arcs) s.legs ∙ rw l (omega arith) in
+      let g : flat (arcs_of arcs) ≡ flat (arcs_of legs) = ap (λ (B : Base). flat B.graph.arcs) e in (
+        sym (ap (λ (B : Base). B.graph.nodes) e),
+        sym (ap (λ (B : Base). B.source) e),
+        sym (ap (λ (B : Base). B.target) e),
+        sym (ap (λ (B : Base). B.services) e),
+        sym (sym (flat_arcs arcs h.arcs n) ∙ g ∙ flat_arcs legs (min s.arcs 512) c),
+      )
+
+  pub base_told : {r : Bool} → (IsTrue r ↔ SameNumbers) → r ≡ same_base (base_in s) (base_from h arcs services)
+  base_told {r = true} e = sym ((same_base_exact (base_in s) (base_from h arcs services)).1 (same_from (e.0 refl)))
+  base_told {r = false} e = sym (false_of (same_base (base_in s) (base_from h arcs services)) (λ t. false≢true (e.1 (same_back ((same_base_exact (base_in s) (base_from h arcs services)).0 t)))))
 
 -- a store without slips is for every base, another by its own
 module _ (s : Store) (base : Base) where

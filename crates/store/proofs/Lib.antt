@@ -1,5 +1,6 @@
 pub mod EarliestLaws
 pub mod HeldLaws
+pub mod ResultLaws
 pub mod BaseLaws
 pub mod PuttingLaws
 pub mod AskingLaws

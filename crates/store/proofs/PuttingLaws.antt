@@ -8,6 +8,10 @@ use lib.ListN.{length}
 use lib.Dec.{eqb, ltb, leb}
 use borrow.Author.Tests.{lt-ltb, le-ltb, ne_eqb, eq-eqb, leb-true, leb-false}
 use Rattle.lists.specs.Lists.{pick, keep, any}
+use Rattle.std.specs.Prelude.{Result, Ok, Err}
+use Rattle.varint.specs.declared.refusal.Refusal.{Refusal}
+use Rattle.varint.specs.declared.refusal.Refusal.TheVariants.{NotShelved}
+use Rattle.varint.specs.Refusal.{number_of, number_in}
 use Rattle.varint.specs.Varint.{Read, got, refuse, after}
 use Rattle.sheet.proofs.RefusalLaws.{AmongThese, refusing_is}
 use Rattle.sheet.proofs.SlipLaws.{slip_read}
@@ -18,15 +22,10 @@ use Rattle.sheet.specs.Sheet.{Sheet, sheet_of}
 use Rattle.sheet.specs.declared.Header.{Header}
 use Rattle.sheet_reader.specs.Loaded.{LoadedPage}
 use Rattle.sheet.specs.Slip.{Slip, read_slip, as17}
-use Rattle.slip_reader.specs.Form.{slip_of, SlipCounts}
-use Rattle.slip_reader.specs.declared.SlipForm.{SlipForm}
-use Rattle.slip_reader.specs.declared.SlipRead.{SlipRead}
-use Rattle.slip_reader.specs.declared.SlipRead.TheVariants.{Got as SlipGot, Refused as SlipRefused}
 use Rattle.work.proofs.LeftLaws.{left_finished, left_refused}
 use Rattle.work.specs.Left.{left}
 use Rattle.check_answer.specs.declared.CheckAnswer.{CheckAnswer}
 use Rattle.check_answer.specs.Answer.{check_answer_of}
-use Rattle.checker.specs.Written.{form_of}
 use Rattle.check_rules.specs.Check.{well_formed, holds, judged_on}
 use Rattle.store_rules.proofs.PutLaws.{put_refusals, put_drawn, put_fits, placed_changes, put_by_check_refused, put_by_check_no, put_by_check_yes}
 use Rattle.store_rules.specs.Shelf.{Nogood, Base, Shelf, base_of, fits_base, subsumes, nogood_of}
@@ -35,27 +34,20 @@ use Rattle.store_rules.specs.Store.{slip_items, shelvable, placed, entered, put_
 use Rattle.store_slot.specs.declared.Slot.{Slot}
 use Rattle.store_slot.specs.Slot.{shown}
 use Rattle.store.specs.declared.Store.{Store}
-use Rattle.store.specs.declared.Putting.{Putting}
-use Rattle.store.specs.declared.Newcomer.{Newcomer}
 use Rattle.store.specs.Held.{base_from, base_in, slips_in, shelf_of}
 use Rattle.store.specs.Steps.{Shelved, shelved, PutAs, entered_on, Rest, Based, Added, Slotted, Judges}
 use Rattle.store.proofs.BaseLaws.{page_base}
+use Rattle.store.proofs.ResultLaws.{err_same, ok_same, ok_not_err}
 
 -- a put that leaves the store as it was: refused, or with the same shelf
-module _ {before : Store} {p : Putting} {e : ℕ} (u : (p.number ≡ e) × (p.store ≡ before)) where
-  pub stays : (r : Read Shelf) → shelved (shelf_of before) r ≡ record { number = e; shelf = shelf_of before } → PutAs before r p
-  stays r q = record {
-    answer = ap {B = Shelved} (λ (n : ℕ). record { number = n; shelf = shelf_of p.store }) u.0 ∙ ap {B = Shelved} (λ (s : Store). record { number = e; shelf = shelf_of s }) u.1 ∙ sym q;
-    same = λ _. u.1;
-  }
-
-  pub refuses : (r : Read Shelf) → r ≡ refuse e → PutAs before r p
+module _ (before : Store) (r : Read Shelf) {A : Type 0} where
+  pub refuses : (why : Refusal) → r ≡ refuse (number_of why) → PutAs {A = A} before r before (Err why)
   unfolding shelved
-  refuses r q = stays r (ap (shelved (shelf_of before)) q)
+  refuses why q = record { answer = sym (ap (shelved (shelf_of before)) q); same = λ _. refl }
 
-pub keeps : {before : Store} {p : Putting} → (p.number ≡ 0) × (p.store ≡ before) → (r : Read Shelf) → r ≡ got (shelf_of before) [] → PutAs before r p
-unfolding shelved
-keeps {before} u r q = stays u r (ap (shelved (shelf_of before)) q)
+  pub keeps : (x : A) → r ≡ got (shelf_of before) [] → PutAs before r before (Ok x)
+  unfolding shelved
+  keeps x q = record { answer = sym (ap (shelved (shelf_of before)) q); same = λ _. refl }
 
 -- what a newcomer leads to
 module _ (before : Store) (base : Base) (slot : Slot) where
@@ -89,13 +81,13 @@ module _ (before : Store) (base : Base) (slot : Slot) where
           placed_changes (shelf_of before) base (shown slot) (record { base = base; slips = slips_in rest ++ (shown slot ∷ []) }) (room_goes h) a
           (sym t ∙ ap (λ (K : Shelf). K.slips) z)
 
-      pub is_placed : rest.count < 64 → {p : Putting} → p.number ≡ 0 → {based : Store} → Based rest base based → Added based slot p.store
-          → PutAs before (entered_on (shelf_of before) base (shown slot)) p
+      pub is_placed : rest.count < 64 → {left based : Store} → Based rest base based → Added based slot left → {A : Type 0} (x : A)
+          → PutAs before (entered_on (shelf_of before) base (shown slot)) left (Ok x)
       unfolding entered_on shelved shelf_of
-      is_placed h {p} n B A =
-          let b : base_in p.store ≡ base = A.base ∙ B.base in
-          let t : slips_in p.store ≡ slips_in rest ++ (shown slot ∷ []) = A.slips ∙ ap (λ (ks : List Nogood). ks ++ (shown slot ∷ [])) B.slips in
-          record { answer = rw (f, room_goes h, n, b, t); same = λ z. absurd (new_shelf h p.store b t z) }
+      is_placed h {left} B A x =
+          let b : base_in left ≡ base = A.base ∙ B.base in
+          let t : slips_in left ≡ slips_in rest ++ (shown slot ∷ []) = A.slips ∙ ap (λ (ks : List Nogood). ks ++ (shown slot ∷ [])) B.slips in
+          record { answer = rw (f, room_goes h, b, t); same = λ z. absurd (new_shelf h left b t z) }
 
 -- what check answered to the slip, by its number and its yes
 module _ (P : Page) (slip : List ℕ) {a : CheckAnswer} (e : a ≡ check_answer_of (after (read_slip slip) (judged_on (sheet_on P)))) where
@@ -151,34 +143,22 @@ shelvable_is S s h l = rw h (ap (λ (b : Bool). b && leb (length s.goals + lengt
     go true q = let m = leb-true s.first 3 q in ap not (ne_eqb s.first 4 (λ e. absurd (omega (arith, m, e))))
     go false q = let m = leb-false s.first 3 q in let e : s.first ≡ 4 = omega (arith, m) in ap not (eq-eqb s.first 4 e)
 
-module _ (K : Shelf) (P : Page) (s : Slip) (r : Newcomer) (h : holds (sheet_on P) s ≡ true) (l : s.first ≤ 4) (t : Slotted (sheet_on P).limit (got s []) r) where
-  slotted_refused : (r.number ≡ 0 → ⊥) → put_in K P s ≡ refuse r.number
+module _ (K : Shelf) (P : Page) (s : Slip) {r : Result Slot Refusal} (h : holds (sheet_on P) s ≡ true) (l : s.first ≤ 4) (t : Slotted (sheet_on P).limit (got s []) r) where
+  slotted_refused : (why : Refusal) → r ≡ Err why → put_in K P s ≡ refuse (number_of why)
   unfolding put_in
-  slotted_refused n = go (slots s) refl
+  slotted_refused why e = go (slots s) refl
     where
-      go : (b : Bool) → slots s ≡ b → put_in K P s ≡ refuse r.number
-      go true q = absurd (n (t.0 q).0)
-      go false q = rw (shelvable_is (sheet_on P) s h l, q) (ap refuse (sym (t.1 q)))
+      go : (b : Bool) → slots s ≡ b → put_in K P s ≡ refuse (number_of why)
+      go true q = absurd (ok_not_err (sym (t.0 q).1 ∙ e))
+      go false q = rw (shelvable_is (sheet_on P) s h l, q) (ap refuse (ap number_of (err_same (sym (t.1 q) ∙ e))))
 
-  slotted_goes : r.number ≡ 0 → put_in K P s ≡ entered_on K (base_of P) (shown r.slot)
+  slotted_goes : (slot : Slot) → r ≡ Ok slot → put_in K P s ≡ entered_on K (base_of P) (shown slot)
   unfolding put_in entered_on
-  slotted_goes n = go (slots s) refl
+  slotted_goes slot e = go (slots s) refl
     where
-      go : (b : Bool) → slots s ≡ b → put_in K P s ≡ entered_on K (base_of P) (shown r.slot)
-      go true q = rw (shelvable_is (sheet_on P) s h l, q, (t.0 q).1)
-      go false q = absurd (omega (arith, n, t.1 q))
-
--- the slot of a slip, from how it is written
-module _ (limit : ℕ) (slip : List ℕ) (w : SlipRead) (e : slip_of slip w ≡ read_slip slip) (n : Newcomer) where
-  pub slotted : {f : SlipForm} → w ≡ SlipGot f → SlipCounts slip (SlipGot f) → {b : Bool} → b ≡ (leb f.first 3 && leb (f.goals + f.reasons) 24)
-      → (b ≡ true → (n.number ≡ 0) × (shown n.slot ≡ nogood_of limit (form_of slip f))) → (b ≡ false → n.number ≡ 20) → Slotted limit (read_slip slip) n
-  slotted {f} q c {b} t y z =
-      let r : read_slip slip ≡ got (form_of slip f) [] = sym e ∙ ap (slip_of slip) q in
-      let d : slots (form_of slip f) ≡ b = rw (c.0, c.1) (sym t) in
-      rw r (λ h. y (sym d ∙ h), λ h. z (sym d ∙ h))
-
-  pub unslotted : w ≡ SlipRefused → Slotted limit (read_slip slip) n
-  unslotted q = let r : read_slip slip ≡ refuse 17 = sym e ∙ ap (slip_of slip) q in rw r tt
+      go : (b : Bool) → slots s ≡ b → put_in K P s ≡ entered_on K (base_of P) (shown slot)
+      go true q = let z = ok_same (sym (t.0 q).1 ∙ e) in let y : shown slot ≡ nogood_of (sheet_on P).limit s = ap shown (sym z) ∙ (t.0 q).2 in rw (shelvable_is (sheet_on P) s h l, q, y)
+      go false q = absurd (ok_not_err (sym e ∙ t.1 q))
 
 -- what check answered, and the slot of a slip to which it said yes, judge the slip for every shelf
 module _ (S : Sheet) (slip : List ℕ) {a : CheckAnswer} (e : a ≡ check_answer_of (after (read_slip slip) (judged_on S))) where
@@ -186,24 +166,46 @@ module _ (S : Sheet) (slip : List ℕ) {a : CheckAnswer} (e : a ≡ check_answer
   meant : (P : Page) → sheet_on P ≡ S → a ≡ check_answer_of (after (read_slip slip) (judged_on (sheet_on P)))
   meant P m = e ∙ ap (λ (T : Sheet). check_answer_of (after (read_slip slip) (judged_on T))) (sym m)
 
-  pub judges_refused : {r : Newcomer} → (a.number ≡ 0 → ⊥) → r.number ≡ a.number → Judges S slip r
-  judges_refused n q =
-      record { refused = λ z K P m. check_refused P slip (meant P m) n K ∙ ap refuse (sym q); goes = λ z K P m. absurd (n (sym q ∙ z)) }
-
-  pub judges_no : {r : Newcomer} → a.number ≡ 0 → a.yes ≡ false → r.number ≡ 20 → Judges S slip r
-  judges_no n y q =
-      record { refused = λ z K P m. check_no P slip (meant P m) n y K ∙ ap refuse (sym q); goes = λ z K P m. absurd (omega (arith, q, z)) }
-
-  pub judges_yes : {r : Newcomer} → a.number ≡ 0 → a.yes ≡ true → Slotted S.limit (read_slip slip) r → Judges S slip r
-  judges_yes {r} n y t = record { refused = λ z K P m. (by K P m).0 z; goes = λ z K P m. (by K P m).1 z }
+  -- its refusal is that of the slip
+  slip_draws : (r : Read Slip) (w : ℕ) → after (as17 r) (judged_on S) ≡ refuse w → (17 ≤ w) × (w ≤ 18)
+  unfolding after as17 judged_on
+  slip_draws (got s rest) w q = go (well_formed S s) q
     where
-      by : (K : Shelf) (P : Page) → sheet_on P ≡ S → ((r.number ≡ 0 → ⊥) → after (read_slip slip) (put_slip K P) ≡ refuse r.number) × (r.number ≡ 0 → after (read_slip slip) (put_slip K P) ≡ entered_on K (base_of P) (shown r.slot))
+      go : (t : Bool) → pick t (got (holds S s) rest) (refuse 18) ≡ refuse w → (17 ≤ w) × (w ≤ 18)
+      go true q = absurd (let z : ◌≡◌ {A = ℕ} 0 1 = cc in omega arith)
+      go false q = let z : w ≡ 18 = cc in (omega arith, omega arith)
+  slip_draws (refuse x) w q = let z : w ≡ 17 = cc in (omega arith, omega arith)
+
+  pub judges_number : (a.number ≡ 0 → ⊥) → (17 ≤ a.number) × (a.number ≤ 18)
+  unfolding check_answer_of read_slip
+  judges_number n = go (after (read_slip slip) (judged_on S)) (slip_draws _) e
+    where
+      go : (r : Read Bool) → ((w : ℕ) → r ≡ refuse w → (17 ≤ w) × (w ≤ 18)) → a ≡ check_answer_of r → (17 ≤ a.number) × (a.number ≤ 18)
+      go (got b rest) t q = absurd (n (ap (λ (x : CheckAnswer). x.number) q))
+      go (refuse w) t q = let d = t w refl in let z : a.number ≡ w = ap (λ (x : CheckAnswer). x.number) q in (omega (arith, d.0, z), omega (arith, d.1, z))
+
+  pub judges_refused : (a.number ≡ 0 → ⊥) → (why : Refusal) → number_of why ≡ a.number → Judges S slip (Err why)
+  judges_refused n why q = record {
+    refused = λ w z K P m. check_refused P slip (meant P m) n K ∙ ap refuse (sym q ∙ ap number_of (err_same z));
+    goes = λ slot z K P m. absurd (ok_not_err (sym z));
+  }
+
+  pub judges_no : a.number ≡ 0 → a.yes ≡ false → Judges S slip (Err NotShelved)
+  judges_no n y = record {
+    refused = λ w z K P m. check_no P slip (meant P m) n y K ∙ ap refuse (ap number_of (err_same z));
+    goes = λ slot z K P m. absurd (ok_not_err (sym z));
+  }
+
+  pub judges_yes : {r : Result Slot Refusal} → a.number ≡ 0 → a.yes ≡ true → Slotted S.limit (read_slip slip) r → Judges S slip r
+  judges_yes {r} n y t = record { refused = λ why z K P m. (by K P m).0 why z; goes = λ slot z K P m. (by K P m).1 slot z }
+    where
+      by : (K : Shelf) (P : Page) → sheet_on P ≡ S → ((why : Refusal) → r ≡ Err why → after (read_slip slip) (put_slip K P) ≡ refuse (number_of why)) × ((slot : Slot) → r ≡ Ok slot → after (read_slip slip) (put_slip K P) ≡ entered_on K (base_of P) (shown slot))
       by K P m =
           let j = put_by_check_yes K P slip (said P slip (meant P m) n ∙ ap (λ (b : Bool). got b []) y) in
           let l = (slip_read slip j.slip [] j.read).1 in
           let t' : Slotted (sheet_on P).limit (read_slip slip) r = subst (λ (T : Sheet). Slotted T.limit (read_slip slip) r) (sym m) t in
           let u : Slotted (sheet_on P).limit (got j.slip []) r = rw j.read at t' in
-          (λ z. j.goes ∙ slotted_refused K P j.slip r j.says l u z, λ z. j.goes ∙ slotted_goes K P j.slip r j.says l u z)
+          (λ why z. j.goes ∙ slotted_refused K P j.slip j.says l u why z, λ slot z. j.goes ∙ slotted_goes K P j.slip j.says l u slot z)
 
 -- a sheet that is refused, and one that was read: what the slip draws on it, or what the newcomer leads to
 module _ (before : Store) (sheet slip : List ℕ) where
@@ -211,24 +213,24 @@ module _ (before : Store) (sheet slip : List ℕ) where
   unfolding put_on after
   bad_sheet w e = rw e
 
-  module _ {h : Header} {arcs marks services : List ℕ} (L : LoadedPage sheet h arcs marks services) {r : Newcomer} (J : Judges (sheet_of h arcs marks) slip r) where
+  module _ {h : Header} {arcs marks services : List ℕ} (L : LoadedPage sheet h arcs marks services) {r : Result Slot Refusal} (J : Judges (sheet_of h arcs marks) slip r) where
     good_sheet : put_on (shelf_of before) sheet slip ≡ after (read_slip slip) (put_slip (shelf_of before) L.on)
     unfolding put_on after
     good_sheet = rw L.took
 
-    pub slip_refused : (r.number ≡ 0 → ⊥) → put_on (shelf_of before) sheet slip ≡ refuse r.number
-    slip_refused n = good_sheet ∙ J.refused n (shelf_of before) L.on L.means
+    pub slip_refused : (why : Refusal) → r ≡ Err why → put_on (shelf_of before) sheet slip ≡ refuse (number_of why)
+    slip_refused why e = good_sheet ∙ J.refused why e (shelf_of before) L.on L.means
 
-    pub slip_goes : r.number ≡ 0 → put_on (shelf_of before) sheet slip ≡ entered_on (shelf_of before) (base_from h arcs services) (shown r.slot)
-    slip_goes n =
-        good_sheet ∙ J.goes n (shelf_of before) L.on L.means ∙ ap (λ (B : Base). entered_on (shelf_of before) B (shown r.slot)) (page_base L)
+    pub slip_goes : (slot : Slot) → r ≡ Ok slot → put_on (shelf_of before) sheet slip ≡ entered_on (shelf_of before) (base_from h arcs services) (shown slot)
+    slip_goes slot e =
+        good_sheet ∙ J.goes slot e (shelf_of before) L.on L.means ∙ ap (λ (B : Base). entered_on (shelf_of before) B (shown slot)) (page_base L)
 
-pub as_drawn : {before : Store} {r q : Read Shelf} {p : Putting} → r ≡ q → PutAs before q p → PutAs before r p
+pub as_drawn : {before left : Store} {r q : Read Shelf} {A : Type 0} {o : Result A Refusal} → r ≡ q → PutAs before q left o → PutAs before r left o
 as_drawn e a = rw e a
 
 -- the answer's number and shelf, and the work
-abbrev given : Putting → List ℕ → Put
-given p work = record { number = p.number; shelf = shelf_of p.store; work = work }
+abbrev given : ℕ → Store → List ℕ → Put
+given n s work = record { number = n; shelf = shelf_of s; work = work }
 
 -- the work is left by the refusal number
 given_is : (K : Shelf) (work : List ℕ) (r : Read Shelf) → ((e : ℕ) → r ≡ refuse e → 1 ≤ e)
@@ -237,19 +239,17 @@ unfolding shelved put_outcome work_after
 given_is K work (got L rest) d = rw (left_finished zeroed work)
 given_is K work (refuse e) d = rw (left_refused zeroed work e (λ z. absurd (omega (arith, d e refl))))
 
-module _ (before : Store) (sheet work slip : List ℕ) {p : Putting} where
+module _ (before : Store) (sheet work slip : List ℕ) where
   -- 1
-  pub put_short : (p.number ≡ 1) × (p.store ≡ before) → length work < 16384 → given p work ≡ rules.put (shelf_of before) sheet work slip
+  pub put_short : length work < 16384 → given 1 before work ≡ rules.put (shelf_of before) sheet work slip
   unfolding rules.put put_outcome work_after
-  put_short u h =
-      let z : ltb (length work) 16384 ≡ true = lt-ltb (length work) 16384 h in
-      rw z (ap {B = Put} (λ (n : ℕ). record { number = n; shelf = shelf_of p.store; work = work }) u.0 ∙ ap {B = Put} (λ (s : Store). record { number = 1; shelf = shelf_of s; work = work }) u.1)
+  put_short h = let z : ltb (length work) 16384 ≡ true = lt-ltb (length work) 16384 h in rw z
 
   -- what sheet and slip draw, with the work left by that
-  pub put_left : 16384 ≤ length work → PutAs before (put_on (shelf_of before) sheet slip) p → {after : List ℕ} → after ≡ left zeroed p.number work
-      → given p after ≡ rules.put (shelf_of before) sheet work slip
+  pub put_left : 16384 ≤ length work → {s : Store} {A : Type 0} {o : Result A Refusal} → PutAs before (put_on (shelf_of before) sheet slip) s o
+      → {n : ℕ} → n ≡ number_in o → {after : List ℕ} → after ≡ left zeroed n work → given (number_in o) s after ≡ rules.put (shelf_of before) sheet work slip
   unfolding rules.put
-  put_left h a z =
-      rw (z, le-ltb (length work) 16384 h)
+  put_left h {o = o} a e z =
+      rw (z, e, le-ltb (length work) 16384 h)
       (ap {B = Put} (λ (s : Shelved). record { number = s.number; shelf = s.shelf; work = left zeroed s.number work }) a.answer
       ∙ given_is (shelf_of before) work (put_on (shelf_of before) sheet slip) (λ e q. (put_fits (refusing_is (AmongThese put_refusals) (put_on (shelf_of before) sheet slip) e (put_drawn (shelf_of before) sheet slip) q)).0))

@@ -1,7 +1,7 @@
 -- What a store shows, whatever numbers it holds: no more slips than there are slots, no more arcs than there are legs for, and no more service minutes than
 -- there is room for.
-use Rattle.std.specs.Prelude.{ℕ, ◌*◌, List, map, take, replicate}
-use Rattle.lists.specs.Lists.{pick}
+use Rattle.std.specs.Prelude.{ℕ, ◌*◌, List, map, take, replicate, Option, Some, None, Result, Ok, Err}
+use Rattle.varint.specs.declared.refusal.Refusal.{Refusal}
 use Rattle.walks.specs.Flat.{graph_of}
 use Rattle.sheet.specs.Lent.{zeros}
 use Rattle.sheet.specs.declared.Header.{Header}
@@ -9,7 +9,6 @@ use Rattle.store_rules.specs.Shelf.{Nogood, Base, Shelf, Found, missing, found}
 use Rattle.store_slot.specs.declared.Slot.{Slot}
 use Rattle.store_slot.specs.Slot.{shown, empty_slot}
 use Rattle.store.specs.declared.Store.{Store}
-use Rattle.store.specs.declared.Asked.{Asked}
 
 -- the base that a sheet's numbers make, and the one that a store's do
 abbrev pub base_from : Header → List ℕ → List ℕ → Base
@@ -36,6 +35,12 @@ empty_slots k = replicate k empty_slot
 unfoldable pub empty_store : Store
 empty_store = record { count = 0; nodes = 0; arcs = 0; source = 0; target = 0; legs = zeros 1536; services = zeros 64; slots = empty_slots 64 }
 
+-- the slip of a slot that was found
+abbrev pub found_slot : Option Slot → Found
+found_slot (Some k) = found (shown k)
+found_slot None = missing
+
 -- what ask found
-abbrev pub found_of : Asked → Found
-found_of a = pick a.found (found (shown a.slot)) missing
+abbrev pub found_in : Result (Option Slot) Refusal → Found
+found_in (Ok o) = found_slot o
+found_in (Err why) = missing

@@ -1,31 +1,37 @@
-// The nogood store (document 02, requests 2.6, a shelf of reasons, and 2.7) by value: slips of refused rounds, kept for later sheets of one map with its
-// service minutes, start and finish.
+// The nogood store by value: slips of refused rounds, kept for later sheets of one map with its service minutes, start and finish (docs/FORMATS.md, 'A shelf of
+// reasons').
 //
 // A program in C lends the store, so it may hold any numbers: no count in it is trusted, and every store shows some shelf (`shelf_of`).
 #![tactic(auto)]
 
-ghost use Rattle.std.specs.Prelude.{◌≡◌, false, ◌&&◌, ◌+◌, ◌*◌, ◌≤◌, ◌<◌, length, leb};
-ghost use Rattle.lists.specs.Lists.{any, front};
+ghost use Rattle.std.specs.Prelude.{◌≡◌, ◌&&◌, ◌+◌, ◌*◌, ◌≤◌, ◌<◌, ◌↔◌, length, leb, take, option_map, IsTrue, IfOk, IfErr};
+ghost use Rattle.std.specs.List.{find, list_any};
+ghost use Rattle.varint.specs.Refusal.{number_of, number_in};
+ghost use Rattle.varint.specs.Varint.{refuse};
+ghost use Rattle.sheet.specs.Reader.{page};
 ghost use Rattle.sheet.specs.Sheet.{sheet_of};
 ghost use Rattle.sheet.specs.Slip.{read_slip};
 ghost use Rattle.sheet_required.specs.Whole.{Whole};
-ghost use Rattle.store_rules.specs.Shelf.{same_base, fits_base, subsumes};
+ghost use Rattle.sheet_reader.specs.Loaded.{LoadedPage};
+ghost use Rattle.store_rules.specs.Shelf.{fits_base, subsumes};
 ghost use Rattle.store_rules.specs.Store.{put_on, put, ask};
-ghost use Rattle.store_slot.specs.Slot.{shown, empty_slot};
-ghost use Rattle.store.specs.Held.{base_from, base_in, slips_in, shelf_of, empty_store, found_of};
-ghost use Rattle.store.specs.Steps.{PutAs, entered_on, Rest, Based, Added, Slotted, Judges, AskedAs, earliest_by};
+ghost use Rattle.store_slot.specs.Slot.{shown};
+ghost use Rattle.store_slot.specs.Lists.{applies_by};
+ghost use Rattle.store.specs.Held.{base_from, held_in, shelf_of, empty_store, found_in};
+ghost use Rattle.store.specs.Steps.{PutAs, entered_on, Rest, Based, Added, Slotted, Judges};
 
 use sheet::Header;
-use sheet_reader::SheetRead;
-use slip_reader::{SlipForm, SlipRead};
+use slip_reader::SlipForm;
 use store_slot::{SLOT_ITEMS, Slot};
+use varint::Refusal;
 use walks::{ARC_NUMBERS, ARCS, ITEMS, NODES};
 
 // The most slips.
 pub const SLOTS: usize = 64;
 
 // How many slips there are, earliest put first, and the map, start and finish that they are for: nodes, arcs, source, target; tail, head and weight of each
-// arc, where a weight is the arc's minutes and the service minutes of its head; and the service minutes of each node.
+// arc, where a weight is the arc's minutes and the service minutes of its head; and the service minutes of each node. All plain numbers, since a program in C
+// lends it.
 #[repr(C)]
 #[derive(Clone, Copy)]
 pub struct Store {
@@ -39,338 +45,308 @@ pub struct Store {
     pub slots: [Slot; SLOTS],
 }
 
-// What put gives: the refusal number, 0 where it finished, and the store.
+// What put gives: the store, and whether the call finished.
 #[derive(Clone, Copy)]
 pub struct Putting {
-    pub number: u32,
     pub store: Store,
+    pub outcome: Result<(), Refusal>,
 }
 
-// What ask gives: the refusal number, 0 where it finished, and whether a slip applies, with the earliest put that does.
-#[derive(Clone, Copy)]
-pub struct Asked {
-    pub number: u32,
-    pub found: bool,
-    pub slot: Slot,
-}
-
-// A store that holds nothing.
-pub fn empty() -> Store
-    ensures { result ≡ empty_store }
-{
-    let slot = store_slot::empty_slot();
-    let legs = [0u32; ARC_NUMBERS];
-    let services = [0u32; NODES];
-    let slots = [slot; SLOTS];
-    Store {
-        count: 0,
-        nodes: 0,
-        arcs: 0,
-        source: 0,
-        target: 0,
-        legs: legs,
-        services: services,
-        slots: slots,
-    }
-}
-
-// Whether the store's map, service minutes, source and target are those of a sheet.
-fn same_base(store: Store, header: Header, arcs: &[u32], services: &[u32]) -> bool
-    requires { length arcs.now ≡ 3 * header.arcs }
-    ensures { result ≡ same_base (base_in store) (base_from header arcs.now services.now) }
-{
-    if store.nodes as usize != header.nodes {
-        return false;
-    }
-    if store.source as usize != header.source {
-        return false;
-    }
-    if store.target as usize != header.target {
-        return false;
-    }
-    let nodes = store_slot::at_most(store.nodes, NODES);
-    let kept = store.services;
-    if !lists::same_numbers(&kept[..nodes], services) {
-        return false;
-    }
-    let numbers = 3 * store_slot::at_most(store.arcs, ARCS);
-    let legs = store.legs;
-    lists::same_numbers(&legs[..numbers], arcs)
-}
-
-// Whether a sheet may be put on the store or asked of it: the store has no slip, or is for the sheet's map, service minutes, source and target.
-fn fits_base(store: Store, header: Header, arcs: &[u32], services: &[u32]) -> bool
-    requires { length arcs.now ≡ 3 * header.arcs }
-    ensures { result ≡ fits_base (shelf_of store) (base_from header arcs.now services.now) }
-{
-    if store.count == 0 {
-        return true;
-    }
-    same_base(store, header, arcs, services)
-}
-
-// Whether some slip of the store subsumes the newcomer.
-fn some_subsumes(store: Store, slot: Slot) -> bool
-    ensures { result ≡ any (λ k. subsumes k (shown slot)) (slips_in store) }
-{
-    let count = store_slot::at_most(store.count, SLOTS);
-    let mut i: usize = 0;
-    while i < count {
-        let kept = store.slots[i];
-        if store_slot::subsumes(kept, slot) {
-            return true;
+impl Putting {
+    // The refusal number, 0 where the call finished.
+    pub fn number(&self) -> u32
+        ensures { result ≡ number_in self.now.outcome }
+    {
+        match self.outcome {
+            Ok(()) => 0,
+            Err(why) => u32::from(why),
         }
-        i += 1;
-    }
-    false
-}
-
-// Leaves out the slips that the newcomer subsumes; the others move up, in their order. What stands in the slots behind them is free.
-fn without_subsumed(store: Store, slot: Slot) -> Store
-    ensures { Rest store slot result }
-{
-    let mut rest = store;
-    let count = store_slot::at_most(rest.count, SLOTS);
-    let mut i: usize = 0;
-    let mut j: usize = 0;
-    while i < count {
-        let kept = rest.slots[i];
-        if !store_slot::subsumes(slot, kept) {
-            rest.slots[j] = kept;
-            j += 1;
-        }
-        i += 1;
-    }
-    rest.count = j as u32;
-    rest
-}
-
-// The numbers over the front of what is kept; what stands behind them is free.
-fn write_front(kept: &mut [u32], numbers: &[u32])
-    requires { length numbers.now ≤ length kept.old }
-    ensures { kept.new ≡ front numbers.now kept.old }
-{
-    let mut i: usize = 0;
-    while i < numbers.len() {
-        kept[i] = numbers[i];
-        i += 1;
     }
 }
 
-// The store with a sheet's map, service minutes, source and target.
-fn with_base(store: Store, header: Header, arcs: &[u32], services: &[u32]) -> Store
-    requires lists_of_header { (length arcs.now ≡ 3 * header.arcs) × (length services.now ≡ header.nodes) }
-    requires header_in_range { (header.nodes ≤ 64) × (header.arcs ≤ 512) × (header.source < 64) × (header.target < 64) }
-    ensures { Based store (base_from header arcs.now services.now) result }
-{
-    let mut based = store;
-    based.nodes = header.nodes as u32;
-    based.arcs = header.arcs as u32;
-    based.source = header.source as u32;
-    based.target = header.target as u32;
-    let mut legs = store.legs;
-    write_front(&mut legs, arcs);
-    based.legs = legs;
-    let mut kept = store.services;
-    write_front(&mut kept, services);
-    based.services = kept;
-    based
+// What a sheet is read into.
+#[derive(Drop)]
+struct Room {
+    arcs: [u32; ARC_NUMBERS],
+    marks: [u8; ITEMS],
+    services: [u32; NODES],
 }
 
-// The store with the newcomer behind its slips.
-fn with_slot(store: Store, slot: Slot) -> Store
-    requires { store.count < 64 }
-    ensures { Added store slot result }
-{
-    let mut more = store;
-    let at = store.count as usize;
-    more.slots[at] = slot;
-    more.count = store.count + 1;
-    more
-}
-
-// The answer of a call that leaves the store as it was.
-fn unchanged(store: Store, number: u32) -> Putting
-    ensures { (result.number ≡ number) × (result.store ≡ store) }
-{
-    Putting {
-        number: number,
-        store: store,
-    }
-}
-
-// Puts a newcomer on the store: 22, another map, other service minutes, another source or target; nothing is changed where it is subsumed; 23, there is no
-// room. A function of its own in the compiled code too, so that its stores are not on the stack while check runs.
-#[inline(never)]
-fn enter(store: Store, header: Header, arcs: &[u32], services: &[u32], slot: Slot) -> Putting
-    requires lists_of_header { (length arcs.now ≡ 3 * header.arcs) × (length services.now ≡ header.nodes) }
-    requires header_in_range { (header.nodes ≤ 64) × (header.arcs ≤ 512) × (header.source < 64) × (header.target < 64) }
-    ensures { let base = base_from header arcs.now services.now in PutAs store (entered_on (shelf_of store) base (shown slot)) result }
-{
-    if !fits_base(store, header, arcs, services) {
-        return unchanged(store, 22);
-    }
-    if some_subsumes(store, slot) {
-        return unchanged(store, 0);
-    }
-    let rest = without_subsumed(store, slot);
-    if rest.count as usize >= SLOTS {
-        return unchanged(store, 23);
-    }
-    let based = with_base(rest, header, arcs, services);
-    Putting {
-        number: 0,
-        store: with_slot(based, slot),
-    }
-}
-
-// What a slip is before a store is looked at: the refusal, or 0 and the slot that is to be put.
+// A sheet that was taken, as it stands in a room: its arcs, three numbers each, its marks and its service minutes.
 #[derive(Clone, Copy)]
-pub struct Newcomer {
-    pub number: u32,
-    pub slot: Slot,
+struct Taken<'a> {
+    header: Header,
+    arcs: &'a [u32],
+    marks: &'a [u8],
+    services: &'a [u32],
 }
 
-// A slip that is refused.
-fn unshelvable(number: u32) -> Newcomer
-    ensures { result.number ≡ number }
+// The refusal of a number that a slip draws.
+fn refusal_of(number: u32) -> Refusal
+    requires { (17 ≤ number) × (number ≤ 18) }
+    ensures { number_of result ≡ number }
 {
-    Newcomer {
-        number: number,
-        slot: store_slot::empty_slot(),
+    if number == 17 {
+        Refusal::BadSlip
+    } else {
+        Refusal::BadClaim
+    }
+}
+
+impl Room {
+    fn empty() -> Room {
+        Room {
+            arcs: [0; ARC_NUMBERS],
+            marks: [0; ITEMS],
+            services: [0; NODES],
+        }
+    }
+
+    // Reads a sheet and lends what was read.
+    fn read<'a>(&'a mut self, sheet: &[u8]) -> Result<Taken<'a>, Refusal>
+        ensures took { IfOk result (λ p. LoadedPage sheet.now p.header p.arcs.now p.marks.now p.services.now) }
+        ensures refused { IfErr result (λ why. page sheet.now ≡ refuse (number_of why)) }
+    {
+        let header = sheet_reader::read_page(
+            sheet,
+            &mut self.arcs,
+            &mut self.marks,
+            &mut self.services,
+        )?;
+        Ok(Taken {
+            header,
+            arcs: &self.arcs[..3 * header.arcs],
+            marks: &self.marks[..header.nodes + header.arcs],
+            services: &self.services[..header.nodes],
+        })
     }
 }
 
 // Whether a slip is one of a refused round and has at most 24 goals and reasons.
-fn fits_slot(form: SlipForm) -> bool
-    ensures { result ≡ (leb form.first 3 && leb (form.goals + form.reasons) 24) }
+fn fits_slot(form: &SlipForm) -> bool
+    ensures { result ≡ (leb form.now.first 3 && leb (form.now.goals.count + form.now.reasons.count) 24) }
 {
-    if form.first > 3 {
-        return false;
-    }
-    form.goals as usize + form.reasons as usize <= SLOT_ITEMS
+    form.first <= 3 && form.goals.count as usize + form.reasons.count as usize <= SLOT_ITEMS
 }
 
 // The slot of a slip that check says yes to, on a sheet with this limit.
-fn newcomer_of(slip: &[u8], limit: u32) -> Newcomer
+fn slot_of(slip: &[u8], limit: u32) -> Result<Slot, Refusal>
     ensures { Slotted limit (read_slip slip.now) result }
 {
-    match slip_reader::judge_slip(slip) {
-        SlipRead::Got(form) => {
-            if !fits_slot(form) {
-                return unshelvable(20);
-            }
-            Newcomer {
-                number: 0,
-                slot: store_slot::slot_of(slip, form, limit),
-            }
-        }
-        SlipRead::Refused => unshelvable(17),
+    let form = slip_reader::judge_slip(slip)?;
+    if !fits_slot(&form) {
+        return Err(Refusal::NotShelved);
     }
+    Ok(Slot::of_slip(&form, limit))
 }
 
-// Judges a slip against a sheet that was taken: 17, 18 and 20, whatever the store.
-fn judge(header: Header, arcs: &[u32], marks: &[u8], slip: &[u8]) -> Newcomer
-    requires { Whole header arcs.now marks.now }
-    ensures { let S = sheet_of header arcs.now marks.now in Judges S slip.now result }
+// Judges a slip against a sheet that was taken: 17, 18 and 20, whatever the store; or the slot that is to be put.
+fn judge(taken: &Taken, slip: &[u8]) -> Result<Slot, Refusal>
+    requires { Whole taken.now.header taken.now.arcs.now taken.now.marks.now }
+    ensures { let S = sheet_of taken.now.header taken.now.arcs.now taken.now.marks.now in Judges S slip.now result }
 {
-    let answer = checker::answer_taken(header, arcs, marks, slip);
-    let number = answer.number;
-    if number != 0 {
-        return unshelvable(number);
+    let answer = checker::answer_taken(taken.header, taken.arcs, taken.marks, slip);
+    if answer.number != 0 {
+        return Err(refusal_of(answer.number));
     }
     if !answer.yes {
-        return unshelvable(20);
+        return Err(Refusal::NotShelved);
     }
-    newcomer_of(slip, header.limit)
+    slot_of(slip, taken.header.limit)
 }
 
-// What put answers to a sheet and a slip: 3 to 13 for the sheet, 17 and 18 for the slip, 20, 22, 23.
-pub fn put_sheet(store: Store, sheet: &[u8], slip: &[u8]) -> Putting
-    ensures { PutAs store (put_on (shelf_of store) sheet.now slip.now) result }
-{
-    let mut arcs = [0u32; ARC_NUMBERS];
-    let mut marks = [0u8; ITEMS];
-    let mut services = [0u32; NODES];
-    let header = match sheet_reader::read_page(sheet, &mut arcs, &mut marks, &mut services) {
-        SheetRead::Got(header) => header,
-        SheetRead::Refused(why) => return unchanged(store, why),
-    };
-    let nodes = header.nodes;
-    let numbers = 3 * header.arcs;
-    let items = nodes + header.arcs;
-    let newcomer = judge(header, &arcs[..numbers], &marks[..items], slip);
-    let number = newcomer.number;
-    if number != 0 {
-        return unchanged(store, number);
+impl Store {
+    // A store that holds nothing.
+    #[tactic(auto, unfolding(crate::specs::Held::empty_store, crate::specs::Held::empty_slots, sheet::specs::Lent::zeros))]
+    pub fn empty() -> Store
+        ensures { result ≡ empty_store }
+    {
+        Store {
+            count: 0,
+            nodes: 0,
+            arcs: 0,
+            source: 0,
+            target: 0,
+            legs: [0; ARC_NUMBERS],
+            services: [0; NODES],
+            slots: [Slot::empty(); SLOTS],
+        }
     }
-    let slot = newcomer.slot;
-    enter(store, header, &arcs[..numbers], &services[..nodes], slot)
-}
 
-// Put: for every store, sheet, work and slip what document 02 says, refused ones too. Where the shelf is as it was, so is every number of the store; what a
-// finished call leaves in slots past the count, and in numbers past the end of a list, the arcs or the service minutes, is free.
-pub fn put(store: Store, sheet: &[u8], work: &mut [u32], slip: &[u8]) -> Putting
-    ensures { (record { number = result.number; shelf = shelf_of result.store; work = work.new }
-        ≡ put (shelf_of store) sheet.now work.old slip.now)
-        × (shelf_of result.store ≡ shelf_of store → result.store ≡ store) }
-{
-    if work.len() < work::WORK_NUMBERS {
-        return unchanged(store, 1);
+    // The slots that count.
+    pub fn slips(&self) -> &[Slot]
+        ensures { result.now ≡ held_in self.now }
+    {
+        &self.slots[..(self.count as usize).min(SLOTS)]
     }
-    let answer = put_sheet(store, sheet, slip);
-    work::leave(work, answer.number);
-    answer
-}
 
-// The answer of a call that found nothing.
-fn unfound(number: u32) -> Asked
-    ensures { (result.number ≡ number) × (result.found ≡ false) × (result.slot ≡ empty_slot) }
-{
-    Asked {
-        number: number,
-        found: false,
-        slot: store_slot::empty_slot(),
+    // The legs of the arcs that count.
+    pub fn legs(&self) -> &[u32]
+        ensures { result.now ≡ take (3 * self.now.arcs) self.now.legs }
+    {
+        let arcs = (self.arcs as usize).min(ARCS);
+        &self.legs[..3 * arcs]
     }
-}
 
-// The earliest put slip that applies by the marks and the limit.
-fn first_applying(store: Store, marks: &[u8], limit: u32) -> Asked
-    ensures { AskedAs (earliest_by store marks.now limit) result }
-{
-    let count = store_slot::at_most(store.count, SLOTS);
-    let mut i: usize = 0;
-    while i < count {
-        let kept = store.slots[i];
-        if store_slot::applies(kept, marks, limit) {
-            return Asked {
-                number: 0,
-                found: true,
-                slot: kept,
+    // The service minutes of the nodes that count.
+    pub fn services(&self) -> &[u32]
+        ensures { result.now ≡ take self.now.nodes self.now.services }
+    {
+        &self.services[..(self.nodes as usize).min(NODES)]
+    }
+
+    // Whether the store's map, service minutes, source and target are those of a sheet.
+    fn same_base(&self, taken: &Taken) -> bool
+        ensures { let h = taken.now.header in let s = self.now in
+            IsTrue result ↔ ((s.nodes ≡ h.nodes) × (s.source ≡ h.source) × (s.target ≡ h.target)
+            × (take s.nodes s.services ≡ taken.now.services.now) × (take (3 * s.arcs) s.legs ≡ taken.now.arcs.now)) }
+    {
+        self.nodes as usize == taken.header.nodes
+            && self.source as usize == taken.header.source
+            && self.target as usize == taken.header.target
+            && self.services() == taken.services
+            && self.legs() == taken.arcs
+    }
+
+    // Whether a sheet may be put on the store or asked of it: the store has no slip, or is for the sheet's map, service minutes, source and target.
+    fn fits_base(&self, taken: &Taken) -> bool
+        requires { length taken.now.arcs.now ≡ 3 * taken.now.header.arcs }
+        ensures { result ≡ fits_base (shelf_of self.now) (base_from taken.now.header taken.now.arcs.now taken.now.services.now) }
+    {
+        self.count == 0 || self.same_base(taken)
+    }
+
+    // Whether some slip of the store subsumes the newcomer.
+    fn some_subsumes(&self, slot: &Slot) -> bool
+        ensures { result ≡ list_any (λ k. subsumes (shown k) (shown slot.now)) (held_in self.now) }
+    {
+        self.slips().iter().any(|kept| kept.subsumes(slot))
+    }
+
+    // Leaves out the slips that the newcomer subsumes; the others move up, in their order. What stands in the slots behind them is free.
+    fn remove_subsumed(&mut self, slot: &Slot)
+        ensures { Rest self.old slot.now self.new }
+    {
+        let count = self.slips().len();
+        let mut left: usize = 0;
+        for i in 0..count {
+            let kept = self.slots[i];
+            if !slot.subsumes(&kept) {
+                self.slots[left] = kept;
+                left += 1;
+            }
+        }
+        self.count = left as u32;
+    }
+
+    // Takes a sheet's map, service minutes, source and target.
+    fn set_base(&mut self, taken: &Taken)
+        requires lists_of_header { (length taken.now.arcs.now ≡ 3 * taken.now.header.arcs) × (length taken.now.services.now ≡ taken.now.header.nodes) }
+        requires header_in_range { let h = taken.now.header in (h.nodes ≤ 64) × (h.arcs ≤ 512) × (h.source < 64) × (h.target < 64) }
+        ensures { Based self.old (base_from taken.now.header taken.now.arcs.now taken.now.services.now) self.new }
+    {
+        self.nodes = taken.header.nodes as u32;
+        self.arcs = taken.header.arcs as u32;
+        self.source = taken.header.source as u32;
+        self.target = taken.header.target as u32;
+        self.legs[..taken.arcs.len()].copy_from_slice(taken.arcs);
+        self.services[..taken.services.len()].copy_from_slice(taken.services);
+    }
+
+    // Puts the newcomer behind the slips.
+    fn push(&mut self, slot: &Slot)
+        requires { self.old.count < 64 }
+        ensures { Added self.old slot.now self.new }
+    {
+        self.slots[self.count as usize] = *slot;
+        self.count += 1;
+    }
+
+    // Puts a newcomer on the store: 22, another map, other service minutes, another source or target; nothing is changed where it is subsumed; 23, there is no
+    // room. A function of its own in the compiled code too, so that its copy of the store is not on the stack while check runs.
+    #[inline(never)]
+    fn enter(&mut self, taken: &Taken, slot: &Slot) -> Result<(), Refusal>
+        requires lists_of_header { (length taken.now.arcs.now ≡ 3 * taken.now.header.arcs) × (length taken.now.services.now ≡ taken.now.header.nodes) }
+        requires header_in_range { let h = taken.now.header in (h.nodes ≤ 64) × (h.arcs ≤ 512) × (h.source < 64) × (h.target < 64) }
+        ensures { let base = base_from taken.now.header taken.now.arcs.now taken.now.services.now in
+            PutAs self.old (entered_on (shelf_of self.old) base (shown slot.now)) self.new result }
+    {
+        if !self.fits_base(taken) {
+            return Err(Refusal::OtherMap);
+        }
+        if self.some_subsumes(slot) {
+            return Ok(());
+        }
+        let before = *self;
+        self.remove_subsumed(slot);
+        if self.count as usize >= SLOTS {
+            *self = before;
+            return Err(Refusal::Full);
+        }
+        self.set_base(taken);
+        self.push(slot);
+        Ok(())
+    }
+
+    // Puts the slip of a sheet's refused round on the store: 3 to 13 for the sheet, 17 and 18 for the slip, 20, 22, 23.
+    fn take(&mut self, sheet: &[u8], slip: &[u8]) -> Result<(), Refusal>
+        ensures { PutAs self.old (put_on (shelf_of self.old) sheet.now slip.now) self.new result }
+    {
+        let mut room = Room::empty();
+        let taken = room.read(sheet)?;
+        let slot = judge(&taken, slip)?;
+        self.enter(&taken, &slot)
+    }
+
+    // What put answers to a sheet and a slip.
+    pub fn put_sheet(mut self, sheet: &[u8], slip: &[u8]) -> Putting
+        ensures { PutAs self (put_on (shelf_of self) sheet.now slip.now) result.store result.outcome }
+    {
+        let outcome = self.take(sheet, slip);
+        Putting {
+            store: self,
+            outcome,
+        }
+    }
+
+    // Put: for every store, sheet, work and slip, refused ones too. Where the shelf is as it was, so is every number of the store; what a finished call leaves
+    // in slots past the count, and in numbers past the end of a list, the arcs or the service minutes, is free.
+    pub fn put(self, sheet: &[u8], work: &mut [u32], slip: &[u8]) -> Putting
+        ensures { (record { number = number_in result.outcome; shelf = shelf_of result.store; work = work.new }
+            ≡ put (shelf_of self) sheet.now work.old slip.now)
+            × (shelf_of result.store ≡ shelf_of self → result.store ≡ self) }
+    {
+        if work.len() < work::WORK_NUMBERS {
+            return Putting {
+                store: self,
+                outcome: Err(Refusal::ShortWork),
             };
         }
-        i += 1;
+        let answer = self.put_sheet(sheet, slip);
+        work::leave(work, answer.number());
+        answer
     }
-    unfound(0)
-}
 
-// Ask: for every store and sheet what document 02 says, refused ones too. Where nothing is found the slot is all zero; where a slip is found, what its slot
-// holds past its lists is free.
-pub fn ask(store: Store, sheet: &[u8]) -> Asked
-    ensures { (record { number = result.number; found = found_of result } ≡ ask (shelf_of store) sheet.now) × (result.found ≡ false → result.slot ≡ empty_slot) }
-{
-    let mut arcs = [0u32; ARC_NUMBERS];
-    let mut marks = [0u8; ITEMS];
-    let mut services = [0u32; NODES];
-    let header = match sheet_reader::read_page(sheet, &mut arcs, &mut marks, &mut services) {
-        SheetRead::Got(header) => header,
-        SheetRead::Refused(why) => return unfound(why),
-    };
-    let nodes = header.nodes;
-    let numbers = 3 * header.arcs;
-    let items = nodes + header.arcs;
-    if !fits_base(store, header, &arcs[..numbers], &services[..nodes]) {
-        return unfound(22);
+    // The earliest put slip that applies by the marks and the limit.
+    fn first_applying(&self, marks: &[u8], limit: u32) -> Option<&Slot>
+        ensures { option_map (λ k. k.now) result ≡ find (λ k. applies_by (shown k) marks.now limit) (held_in self.now) }
+    {
+        self.slips().iter().find(|kept| kept.applies(marks, limit))
     }
-    first_applying(store, &marks[..items], header.limit)
+
+    // Ask: for every store and sheet, refused ones too: the earliest put slip that applies to the sheet, if one does. What its slot holds past its lists is
+    // free.
+    pub fn ask(&self, sheet: &[u8]) -> Result<Option<Slot>, Refusal>
+        ensures { record { number = number_in result; found = found_in result } ≡ ask (shelf_of self.now) sheet.now }
+    {
+        let mut room = Room::empty();
+        let taken = room.read(sheet)?;
+        if !self.fits_base(&taken) {
+            return Err(Refusal::OtherMap);
+        }
+        Ok(
+            self.first_applying(taken.marks, taken.header.limit)
+                .copied(),
+        )
+    }
 }

@@ -1,10 +1,10 @@
 -- From what put and ask answer to their answers over bytes. A slip that applies to a sheet names items of the sheet alone, so it can be written, and fits. Assumes nothing.
-use Prim.Native.Nat.{ℕ, ◌+◌, ◌-◌, ◌*◌, ◌≤◌, ◌<◌}
+use Prim.Native.Nat.{ℕ, ◌+◌, ◌*◌, ◌≤◌, ◌<◌}
 use mathlib.Core.Path.{◌≡◌, refl, sym, ap, ◌∙◌}
 use mathlib.Core.Bool.{true}
 use mathlib.Core.List.{List, [], ◌∷◌}
 use native.Mathlib.Omega.{arith}
-use lib.ListN.{length, take, drop, length-append}
+use lib.ListN.{length, take, length-take, length-append}
 use lib.Dec.{ltb}
 use borrow.Author.Tests.{lt-ltb, le-ltb}
 use Rattle.lists.proofs.Pigeonhole.{Below, below_append, below_le, below_all}
@@ -13,6 +13,9 @@ use Rattle.lists.proofs.RowLaws.{rows_append}
 use Rattle.varint.proofs.SizeLaws.{number_byte}
 use Rattle.varint.proofs.VarintLaws.{numbers_size}
 use Rattle.varint.proofs.WriteLaws.{small_below, numbers_rows}
+use Rattle.std.specs.Prelude.{Result}
+use Rattle.lists.proofs.FrontLaws.{take_least}
+use Rattle.varint.specs.declared.refusal.Refusal.{Refusal}
 use Rattle.varint.specs.Answer.{small}
 use Rattle.varint.specs.Varint.{Read, got, refuse, write_numbers}
 use Rattle.sheet.proofs.RefusalLaws.{AmongThese, refusing_is}
@@ -30,11 +33,9 @@ use Rattle.work.specs.Bytes.{zeroed_bytes, bytes_after}
 use Rattle.work.specs.Left.{left}
 use Rattle.store_slot.proofs.SlotLaws.{shown_first, shown_few}
 use Rattle.store_slot.specs.declared.Slot.{Slot}
-use Rattle.store_slot.specs.declared.SlotLists.{SlotLists}
-use Rattle.store_slot.specs.Slot.{reasons_in, shown}
-use Rattle.store_slot.specs.Lists.{Unpacked}
+use Rattle.store_slot.specs.Slot.{goals_in, reasons_in, shown}
 use Rattle.store.specs.declared.Store.{Store}
-use Rattle.store.specs.declared.Putting.{Putting}
+use Rattle.varint.specs.Refusal.{number_in}
 use Rattle.store.specs.Held.{shelf_of}
 use Rattle.store.specs.Steps.{Shelved, shelved, PutAs}
 use Rattle.store_bytes.specs.Bytes.{PutBytesOutcome, put_bytes_outcome, put_bytes, ask_bytes_outcome, ask_bytes}
@@ -67,12 +68,12 @@ module _ (before : Store) (sheet work slip : List ℕ) where
   put_short h = let z : ltb (length work) 65536 ≡ true = lt-ltb (length work) 65536 h in rw z
 
   -- what sheet and slip draw, told in bytes
-  pub put_in_bytes : 65536 ≤ length work → {p : Putting} → PutAs before (put_on (shelf_of before) sheet slip) p → {n : ℕ} {after : List ℕ} → n ≡ 65536 * p.number + 0
-      → after ≡ left zeroed_bytes p.number work
-      → record { number = n; shelf = shelf_of p.store; work = after } ≡ put_bytes (shelf_of before) sheet work slip
+  pub put_in_bytes : 65536 ≤ length work → {s : Store} {A : Type 0} {o : Result A Refusal} → PutAs before (put_on (shelf_of before) sheet slip) s o
+      → {m n : ℕ} {after : List ℕ} → m ≡ number_in o → n ≡ 65536 * m + 0 → after ≡ left zeroed_bytes m work
+      → record { number = n; shelf = shelf_of s; work = after } ≡ put_bytes (shelf_of before) sheet work slip
   unfolding put_bytes
-  put_in_bytes h {p} a e f =
-      rw (e, f, le-ltb (length work) 65536 h)
+  put_in_bytes h a m e f =
+      rw (e, f, m, le-ltb (length work) 65536 h)
       (ap {B = PutBytesOutcome} (λ (s : Shelved). record { number = 65536 * s.number + 0; shelf = s.shelf; work = left zeroed_bytes s.number work }) a.answer
       ∙ in_bytes (shelf_of before) work (put_on (shelf_of before) sheet slip) (put_draws (shelf_of before) sheet slip))
 
@@ -108,14 +109,20 @@ module _ {k : Nogood} (h : Short k) where
 pub slot_short : (k : Slot) → length k.items ≡ 24 → Named (shown k) → Short (shown k)
 slot_short k l w = record { first = shown_first k; few = shown_few k l; named = w }
 
+-- the goals are as many as they are told
+goals_taken : (k : Slot) → take (length (goals_in k)) k.items ≡ goals_in k
+unfolding goals_in
+goals_taken k = ap (λ (n : ℕ). take n k.items) (length-take k.goals k.items) ∙ take_least k.goals k.items
+
+pub goals_within : (k : Slot) {is gs : List ℕ} → is ≡ k.items → gs ≡ goals_in k → length gs ≤ length is
+unfolding goals_in
+goals_within k i g = let n = length-take k.goals k.items in rw (i, g, n) (omega arith)
+
 -- the slip of a slot, from its lists
-pub slot_slip : {k : Slot} {l : SlotLists} {f : ℕ} → Unpacked k l → f ≡ (shown k).first
-    → slip_from f (take l.goals_end l.items) (take (l.reasons_end - l.goals_end) (drop l.goals_end k.items)) ≡ slip_of (shown k)
+pub slot_slip : (k : Slot) {f : ℕ} {is gs rs : List ℕ} → f ≡ (shown k).first → is ≡ k.items → gs ≡ goals_in k → rs ≡ reasons_in k
+    → slip_from f (take (length gs) is) rs ≡ slip_of (shown k)
 unfolding slip_of shown
-slot_slip {k} {l} u e =
-    let r : take (l.reasons_end - l.goals_end) (drop l.goals_end k.items) ≡ reasons_in k =
-    ap (λ (xs : List ℕ). take (l.reasons_end - l.goals_end) (drop l.goals_end xs)) (sym u.same) ∙ u.reasons in
-    rw (e, u.goals, r)
+slot_slip k e i g r = rw (e, i, g, r, goals_taken k)
 
 pub wrote_as : {s t : Slip} → s ≡ t → (d out : List ℕ) (n : ℕ) → Put (slip_bytes s) d out n → Put (slip_bytes t) d out n
 wrote_as e d out n w = rw e at w

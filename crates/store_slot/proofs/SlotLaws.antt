@@ -1,42 +1,20 @@
 -- Laws of a slot's lists: counts that are cut to the room there is take the same items. Assumes nothing.
-use Prim.Native.Nat.{ℕ, ◌+◌, ◌-◌, ◌≤◌, ◌<◌, min}
-use mathlib.Core.Path.{◌≡◌, refl, sym, ap, ap₂, ◌∙◌}
-use mathlib.Core.Bool.{Bool, true, false, ◌&&◌}
-use mathlib.Core.List.{List, ◌++◌, append_assoc}
+use Prim.Native.Nat.{ℕ, ◌+◌, ◌-◌, ◌≤◌, min}
+use mathlib.Core.Path.{◌≡◌, refl, sym, ap, ◌∙◌}
+use mathlib.Core.Bool.{Bool, true, false, ◌&&◌, true≢false}
+use mathlib.Core.List.{List, [], ◌∷◌, ◌++◌, append_assoc}
 use native.Mathlib.Omega.{arith}
-use lib.ListN.{length, get_or, take, drop, length-take, length-drop, length-append}
-use lib.Seq.{take_at, drop_at, length-take-le}
+use lib.ListN.{length, take, drop, length-take, length-drop, length-append}
+use Rattle.std.specs.List.{list_all, list_any}
+use lib.Seq.{take_all, take_at, drop_at}
 use lib.Dec.{eqb, leb}
-use borrow.Author.Tests.{lt-leb, le-leb, leb-true}
+use borrow.Author.Tests.{le-leb, leb-true, eqb-true, eq-eqb, ne_eqb}
 use Rattle.lists.proofs.FrontLaws.{take_least, drop_least, Room}
 use Rattle.lists.specs.Lists.{pick, member, every, subset, front}
 use Rattle.slip_reader.specs.Form.{slip_from}
-use Rattle.store_rules.specs.Shelf.{subsumes, nogood_of}
+use Rattle.store_rules.specs.Shelf.{nogood_of}
 use Rattle.store_slot.specs.Slot.{goals_in, reasons_in, shown}
-use Rattle.store_slot.specs.Lists.{applies_by, Unpacked}
 use Rattle.store_slot.specs.declared.Slot.{Slot}
-use Rattle.store_slot.specs.declared.SlotLists.{SlotLists}
-
--- the lists of a slot, by the cut counts
-pub unpacked : (k : Slot) (g r : ℕ) (items : List ℕ) → length k.items ≡ 24 → g ≡ min k.goals 24 → r ≡ min k.reasons (24 - g) → items ≡ k.items
-    → Unpacked k (record { goals_end = g; reasons_end = g + r; items = items })
-unfolding goals_in reasons_in
-unpacked k g r items l p q e =
-    let d : drop g k.items ≡ drop k.goals k.items = ap (λ (n : ℕ). drop n k.items) (p ∙ ap (min k.goals) (sym l)) ∙ drop_least k.goals k.items in
-    let n : length (drop k.goals k.items) ≡ 24 - g = ap length (sym d) ∙ length-drop g k.items ∙ ap (◌- g) l in
-    let s : g + r - g ≡ min k.reasons (length (drop k.goals k.items)) = let z : g + r - g ≡ r = omega arith in z ∙ q ∙ ap (min k.reasons) (sym n) in
-    record {
-      size = ap length e ∙ l;
-      same = e;
-      goals = rw e (ap (λ (n : ℕ). take n k.items) (p ∙ ap (min k.goals) (sym l)) ∙ take_least k.goals k.items);
-      reasons = rw (e, d, s) (take_least k.reasons (drop k.goals k.items));
-      order = omega arith;
-      room = omega (arith, p, q);
-    }
-
--- the goals are as many as their end says
-pub goals_counted : {k : Slot} {l : SlotLists} → Unpacked k l → l.goals_end ≡ length (take l.goals_end l.items)
-goals_counted {k} {l} u = sym (length-take-le l.goals_end l.items (omega (arith, u.size, u.order, u.room)))
 
 -- room for two lists by their counts
 pub counted_room : {g r : ℕ} {gs rs d : List ℕ} → length gs ≡ g → length rs ≡ r → g + r ≤ length d → Room gs rs d
@@ -66,58 +44,55 @@ pub shown_few : (k : Slot) → length k.items ≡ 24 → length (shown k).goals 
 unfolding shown goals_in reasons_in
 shown_few k l = simp (length-take, length-drop) (omega (arith, l))
 
--- three tests, told by the last and then one after the other
-last_fails : (a b : Bool) {c : Bool} → c ≡ false → false ≡ (a && (b && c))
+-- the lists that a slot shows, by the cut counts
+pub goals_cut : (k : Slot) → length k.items ≡ 24 → {g : ℕ} → g ≡ min k.goals 24 → take g k.items ≡ goals_in k
+unfolding goals_in
+goals_cut k l p = ap (λ (n : ℕ). take n k.items) (p ∙ ap (min k.goals) (sym l)) ∙ take_least k.goals k.items
+
+pub reasons_cut : (k : Slot) → length k.items ≡ 24 → {g r : ℕ} → g ≡ min k.goals 24 → r ≡ min k.reasons (24 - g)
+    → take r (take (24 - g) (drop g k.items)) ≡ reasons_in k
+unfolding reasons_in
+reasons_cut k l {g} {r} p q =
+    let d : drop g k.items ≡ drop k.goals k.items = ap (λ (n : ℕ). drop n k.items) (p ∙ ap (min k.goals) (sym l)) ∙ drop_least k.goals k.items in
+    let n : length (drop k.goals k.items) ≡ 24 - g = ap length (sym d) ∙ length-drop g k.items ∙ ap (◌- g) l in
+    let s : r ≡ min k.reasons (length (drop k.goals k.items)) = q ∙ ap (min k.reasons) (sym n) in
+    rw (d, ← n, take_all (length (drop k.goals k.items)) (drop k.goals k.items) (omega arith), s) (take_least k.reasons (drop k.goals k.items))
+
+-- the tests of the lists by std's words
+eqb_turned : (a b : ℕ) → eqb a b ≡ eqb b a
+eqb_turned a b = go (eqb a b) refl
+  where
+    go : (t : Bool) → eqb a b ≡ t → t ≡ eqb b a
+    go true q = sym (eq-eqb b a (sym (eqb-true a b q)))
+    go false q = sym (ne_eqb b a (λ e. absurd (true≢false (sym (eq-eqb a b (sym e)) ∙ q))))
+
+member_any : (x : ℕ) (ys : List ℕ) → list_any (λ y. eqb y x) ys ≡ member x ys
+unfolding member
+member_any x [] = refl
+member_any x (y ∷ ys) = rw (member_any x ys, eqb_turned y x)
+
+pub subset_all : (xs ys : List ℕ) → list_all (λ x. list_any (λ y. eqb y x) ys) xs ≡ subset xs ys
+unfolding subset every
+subset_all [] ys = refl
+subset_all (x ∷ xs) ys = rw (subset_all xs ys, member_any x ys)
+
+pub every_all : (f : ℕ → Bool) (xs : List ℕ) → list_all f xs ≡ every f xs
+unfolding every
+every_all f [] = refl
+every_all f (x ∷ xs) = rw (every_all f xs)
+
+-- three tests, of which the last was told first: where it holds, and the first does or not
+pub last_fails : (a b : Bool) {c : Bool} → c ≡ false → false ≡ (a && (b && c))
 last_fails true true e = sym e
 last_fails true false e = refl
 last_fails false b e = refl
 
-first_fails : {a r : Bool} (b : Bool) → r ≡ a → r ≡ false → false ≡ (a && b)
-first_fails {a} b e q = let z : a ≡ false = sym e ∙ q in rw z
+pub first_fails : {a : Bool} (b : Bool) → a ≡ false → false ≡ (a && b)
+first_fails b e = rw e
 
-and_true_right : (b : Bool) → (b && true) ≡ b
-and_true_right true = refl
-and_true_right false = refl
-
-second_is : {a b c r s : Bool} → c ≡ true → r ≡ a → r ≡ true → s ≡ b → s ≡ (a && (b && c))
-second_is {a} {b} {c} z e q f = let y : a ≡ true = sym e ∙ q in rw (y, z, f) (sym (and_true_right b))
-
--- one subsumes the other, told so
-module _ (a b : Slot) where
-  pub subsumes_greater : a.limit < b.limit → false ≡ subsumes (shown a) (shown b)
-  unfolding subsumes shown
-  subsumes_greater h = last_fails (subset (goals_in a) (goals_in b)) (subset (reasons_in a) (reasons_in b)) (lt-leb b.limit a.limit h)
-
-  module _ {l m : SlotLists} (u : Unpacked a l) (v : Unpacked b m) {r : Bool} (e : r ≡ every (λ x. member x (take m.goals_end m.items)) (take l.goals_end l.items)) where
-    goals_are : r ≡ subset (goals_in a) (goals_in b)
-    unfolding subset
-    goals_are = e ∙ ap₂ (λ (xs ys : List ℕ). every (λ x. member x ys) xs) u.goals v.goals
-
-    pub subsumes_goals : r ≡ false → false ≡ subsumes (shown a) (shown b)
-    unfolding subsumes shown
-    subsumes_goals q = first_fails (subset (reasons_in a) (reasons_in b) && leb b.limit a.limit) goals_are q
-
-    pub subsumes_reasons : r ≡ true → b.limit ≤ a.limit → {s : Bool}
-        → s ≡ every (λ x. member x (take (m.reasons_end - m.goals_end) (drop m.goals_end m.items))) (take (l.reasons_end - l.goals_end) (drop l.goals_end l.items))
-        → s ≡ subsumes (shown a) (shown b)
-    unfolding subsumes shown subset
-    subsumes_reasons q h f = second_is (le-leb b.limit a.limit h) goals_are q (f ∙ ap₂ (λ (xs ys : List ℕ). every (λ x. member x ys) xs) u.reasons v.reasons)
-
--- a slot applies, told so
-module _ (k : Slot) (marks : List ℕ) (limit : ℕ) where
-  pub applies_greater : k.limit < limit → false ≡ applies_by (shown k) marks limit
-  unfolding applies_by shown
-  applies_greater h = last_fails (every (λ x. eqb (get_or marks x 0) 2) (reasons_in k)) (every (λ x. eqb (get_or marks x 0) 1) (goals_in k)) (lt-leb limit k.limit h)
-
-  module _ {l : SlotLists} (u : Unpacked k l) {r : Bool} (e : r ≡ every (λ x. eqb (get_or marks x 0) 2) (take (l.reasons_end - l.goals_end) (drop l.goals_end l.items))) where
-    reasons_are : r ≡ every (λ x. eqb (get_or marks x 0) 2) (reasons_in k)
-    reasons_are = e ∙ ap (every (λ x. eqb (get_or marks x 0) 2)) u.reasons
-
-    pub applies_reasons : r ≡ false → false ≡ applies_by (shown k) marks limit
-    unfolding applies_by shown
-    applies_reasons q = first_fails (every (λ x. eqb (get_or marks x 0) 1) (goals_in k) && leb limit k.limit) reasons_are q
-
-    pub applies_goals : r ≡ true → limit ≤ k.limit → {s : Bool} → s ≡ every (λ x. eqb (get_or marks x 0) 1) (take l.goals_end l.items)
-        → s ≡ applies_by (shown k) marks limit
-    unfolding applies_by shown
-    applies_goals q h f = second_is (le-leb limit k.limit h) reasons_are q (f ∙ ap (every (λ x. eqb (get_or marks x 0) 1)) u.goals)
+pub second_tells : {a b c : Bool} → a ≡ true → c ≡ true → b ≡ (a && (b && c))
+second_tells {a} {b} e z = rw (e, z) (go b)
+  where
+    go : (b : Bool) → b ≡ (b && true)
+    go true = refl
+    go false = refl

@@ -1,26 +1,26 @@
-// A slot of the store: a shelved slip with its sheet's limit (document 02, request 2.6), and what is asked of it.
+// A slot of the store: a shelved slip with its sheet's limit, and what is asked of it.
 //
 // A slot may hold any numbers, since a program in C lends the store: its counts are not trusted, and every slot shows some slip.
 #![tactic(auto)]
 
-ghost use Rattle.std.specs.Prelude.{◌≡◌, ◌++◌, ◌+◌, ◌≤◌, min, length};
+ghost use Rattle.std.specs.Prelude.{◌≡◌, ◌++◌, ◌+◌, ◌≤◌, ◌==◌, min, length, get_or, eqb};
+ghost use Rattle.std.specs.List.{list_all, list_any};
 ghost use Rattle.lists.specs.Lists.{front};
-ghost use Rattle.slip_reader.specs.Form.{SlipCounts};
-ghost use Rattle.slip_reader.specs.declared.SlipRead.TheVariants.{Got};
-ghost use Rattle.checker.specs.Written.{form_of};
+ghost use Rattle.slip_reader.specs.Form.{slip_in};
 ghost use Rattle.store_rules.specs.Shelf.{subsumes, nogood_of};
-ghost use Rattle.store_slot.specs.Slot.{shown, empty_slot};
-ghost use Rattle.store_slot.specs.Lists.{applies_by, Unpacked};
+ghost use Rattle.store_slot.specs.Slot.{goals_in, reasons_in, shown, empty_slot};
+ghost use Rattle.store_slot.specs.Lists.{applies_by};
 
 use slip_reader::SlipForm;
-use walks::{FORBIDDEN, MANDATORY};
+use walks::{FORBIDDEN, MANDATORY, OPEN};
 
 // The most goals and reasons together.
 pub const SLOT_ITEMS: usize = 24;
 
-// A shelved slip: its first number, its sheet's limit, how many goals and reasons it has, and the items, goals first.
+// A shelved slip: its first number, its sheet's limit, how many goals and reasons it has, and the items, goals first. Its counts are plain numbers beside the
+// items, and no list: a program in C lends it.
 #[repr(C)]
-#[derive(Clone, Copy)]
+#[derive(Clone, Copy, Debug, PartialEq, Eq)]
 pub struct Slot {
     pub first: u32,
     pub limit: u32,
@@ -29,139 +29,117 @@ pub struct Slot {
     pub items: [u32; SLOT_ITEMS],
 }
 
-// A slot that holds nothing.
-pub fn empty_slot() -> Slot
-    ensures { result ≡ empty_slot }
+// Whether the list has each of the entries.
+fn all_listed(entries: &[u32], list: &[u32]) -> bool
+    ensures { result ≡ list_all (λ x. list_any (λ y. y == x) list.now) entries.now }
 {
-    let items = [0u32; SLOT_ITEMS];
-    Slot {
-        first: 0,
-        limit: 0,
-        goals: 0,
-        reasons: 0,
-        items: items,
-    }
+    entries.iter().all(|entry| list.contains(entry))
 }
 
-// A count that is not trusted, as far as there is room.
-pub fn at_most(count: u32, room: usize) -> usize
-    ensures { result ≡ min count room }
+// Whether the item has the mark; one past the marks is open.
+fn is_marked(marks: &[u8], item: u32, mark: u8) -> bool
+    ensures { result ≡ eqb (get_or marks.now item 0) mark }
 {
-    if count as usize <= room {
-        count as usize
-    } else {
-        room
-    }
+    marks.get(item as usize).copied().unwrap_or(OPEN) == mark
 }
 
-// The items as indices.
-fn indices(items: [u32; SLOT_ITEMS]) -> [usize; SLOT_ITEMS]
-    ensures { result ≡ items }
+// Whether each of the items has the mark.
+fn all_marked(marks: &[u8], items: &[u32], mark: u8) -> bool
+    ensures { result ≡ list_all (λ x. eqb (get_or marks.now x 0) mark) items.now }
 {
-    let mut list = [0usize; SLOT_ITEMS];
-    let mut i: usize = 0;
-    while i < SLOT_ITEMS {
-        list[i] = items[i] as usize;
-        i += 1;
-    }
-    list
-}
-
-// The lists of a slot: the goals end, and the reasons behind them, at these places.
-#[derive(Clone, Copy)]
-pub struct SlotLists {
-    pub goals_end: usize,
-    pub reasons_end: usize,
-    pub items: [usize; SLOT_ITEMS],
-}
-
-// Takes a slot's lists out of it.
-pub fn lists_of(slot: Slot) -> SlotLists
-    ensures { Unpacked slot result }
-{
-    let goals_end = at_most(slot.goals, SLOT_ITEMS);
-    let reasons = at_most(slot.reasons, SLOT_ITEMS - goals_end);
-    let items = slot.items;
-    SlotLists {
-        goals_end: goals_end,
-        reasons_end: goals_end + reasons,
-        items: indices(items),
-    }
+    items.iter().all(|&item| is_marked(marks, item, mark))
 }
 
 // Reads the goals and then the reasons of a slip that is well written over the front of `items`.
-fn read_items(slip: &[u8], form: SlipForm, items: &mut [u32])
-    requires { SlipCounts slip.now (Got form) × (form.goals + form.reasons ≤ length items.old) }
-    ensures { let s = form_of slip.now form in
+fn read_items(form: &SlipForm, items: &mut [u32])
+    requires { form.now.goals.count + form.now.reasons.count ≤ length items.old }
+    ensures { let s = slip_in form.now in
         items.new ≡ front (s.goals ++ s.reasons) items.old }
 {
-    let goals = form.goals as usize;
-    numbers::values_at(slip, form.goals_at, goals, items);
-    numbers::values_at(
-        slip,
-        form.reasons_at,
-        form.reasons as usize,
-        &mut items[goals..],
-    );
+    let goals = form.goals.count as usize;
+    let reasons = form.reasons.count as usize;
+    numbers::values_at(form.goals.bytes, 0, goals, items);
+    numbers::values_at(form.reasons.bytes, 0, reasons, &mut items[goals..]);
 }
 
-// The slot of a slip that is well written, with its sheet's limit.
-pub fn slot_of(slip: &[u8], form: SlipForm, limit: u32) -> Slot
-    requires { SlipCounts slip.now (Got form) × (form.first ≤ 3) × (form.goals + form.reasons ≤ 24) }
-    ensures { shown result ≡ nogood_of limit (form_of slip.now form) }
-{
-    let mut items = [0u32; SLOT_ITEMS];
-    read_items(slip, form, &mut items);
-    Slot {
-        first: form.first,
-        limit: limit,
-        goals: form.goals,
-        reasons: form.reasons,
-        items: items,
+impl Slot {
+    // A slot that holds nothing.
+    #[tactic(auto, unfolding(crate::specs::Slot::empty_slot, sheet::specs::Lent::zeros))]
+    pub fn empty() -> Slot
+        ensures { result ≡ empty_slot }
+    {
+        Slot {
+            first: 0,
+            limit: 0,
+            goals: 0,
+            reasons: 0,
+            items: [0; SLOT_ITEMS],
+        }
     }
-}
 
-// The first number that a slot shows.
-pub fn first_of(slot: Slot) -> u32
-    ensures { result ≡ (shown slot).first }
-{
-    if slot.first <= 3 { slot.first } else { 0 }
-}
+    // The slot of a slip that is well written, with its sheet's limit.
+    pub fn of_slip(form: &SlipForm, limit: u32) -> Slot
+        requires { (form.now.first ≤ 3) × (form.now.goals.count + form.now.reasons.count ≤ 24) }
+        ensures { shown result ≡ nogood_of limit (slip_in form.now) }
+    {
+        let mut items = [0; SLOT_ITEMS];
+        read_items(form, &mut items);
+        Slot {
+            first: form.first,
+            limit,
+            goals: form.goals.count,
+            reasons: form.reasons.count,
+            items,
+        }
+    }
 
-// Whether one subsumes the other (document 02: covers).
-pub fn subsumes(one: Slot, other: Slot) -> bool
-    ensures { result ≡ subsumes (shown one) (shown other) }
-{
-    if one.limit < other.limit {
-        return false;
+    // How many goals there are, as far as there is room.
+    fn goal_count(&self) -> usize
+        ensures { result ≡ min self.now.goals 24 }
+    {
+        (self.goals as usize).min(SLOT_ITEMS)
     }
-    let a = lists_of(one);
-    let b = lists_of(other);
-    let a_goals = a.goals_end;
-    let b_goals = b.goals_end;
-    let a_end = a.reasons_end;
-    let b_end = b.reasons_end;
-    let a_items = a.items;
-    let b_items = b.items;
-    if !lists::all_listed(&a_items[..a_goals], &b_items[..b_goals]) {
-        return false;
-    }
-    lists::all_listed(&a_items[a_goals..a_end], &b_items[b_goals..b_end])
-}
 
-// Whether the slip's reasons are forbidden and its goals mandatory by the marks, and the limit is no greater than its own.
-pub fn applies(slot: Slot, marks: &[u8], limit: u32) -> bool
-    ensures { result ≡ applies_by (shown slot) marks.now limit }
-{
-    if slot.limit < limit {
-        return false;
+    // The goals that the slot shows.
+    pub fn goals(&self) -> &[u32]
+        ensures { result.now ≡ goals_in self.now }
+    {
+        &self.items[..self.goal_count()]
     }
-    let all = lists_of(slot);
-    let goals = all.goals_end;
-    let end = all.reasons_end;
-    let items = all.items;
-    if !check_claim::all_marked(marks, &items[goals..end], FORBIDDEN) {
-        return false;
+
+    // The reasons that the slot shows, behind the goals.
+    pub fn reasons(&self) -> &[u32]
+        ensures { result.now ≡ reasons_in self.now }
+    {
+        let behind = &self.items[self.goal_count()..];
+        &behind[..(self.reasons as usize).min(behind.len())]
     }
-    check_claim::all_marked(marks, &items[..goals], MANDATORY)
+
+    // The first number that the slot shows.
+    #[tactic(auto, unfolding(crate::specs::Slot::shown))]
+    pub fn first_number(&self) -> u32
+        ensures { result ≡ (shown self.now).first }
+    {
+        if self.first <= 3 { self.first } else { 0 }
+    }
+
+    // Whether it subsumes the other: its goals and reasons are the other's too, and its limit is at least as great.
+    pub fn subsumes(&self, other: &Slot) -> bool
+        ensures { result ≡ subsumes (shown self.now) (shown other.now) }
+    {
+        if self.limit < other.limit {
+            return false;
+        }
+        all_listed(self.goals(), other.goals()) && all_listed(self.reasons(), other.reasons())
+    }
+
+    // Whether the slip's reasons are forbidden and its goals mandatory by the marks, and the limit is no greater than its own.
+    pub fn applies(&self, marks: &[u8], limit: u32) -> bool
+        ensures { result ≡ applies_by (shown self.now) marks.now limit }
+    {
+        if self.limit < limit {
+            return false;
+        }
+        all_marked(marks, self.reasons(), FORBIDDEN) && all_marked(marks, self.goals(), MANDATORY)
+    }
 }

@@ -1,3 +1,4 @@
-pub mod LineParts
+pub mod ListLaws
+pub mod SizeLaws
 pub mod StruckLaws
 pub mod SheetB

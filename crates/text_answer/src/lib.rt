@@ -1,63 +1,110 @@
-// The lines of what the pass answers to a sheet (document 01, 'The sheet B and what it gives', last paragraph), and of a refusal.
+// What the pass answers to a sheet, as the program prints it: the lines of a round that stands, of one that is refused, and of a refusal of the sheet.
 #![tactic(auto)]
 
-ghost use Rattle.std.specs.Prelude.{◌≡◌, true, ◌&&◌, ◌≤◌, ◌<◌, length, eqb};
-ghost use Rattle.lists.specs.Lists.{Put};
-ghost use Rattle.varint.specs.Answer.{small};
-ghost use Rattle.slip_reader.specs.Form.{slip_from};
-ghost use Rattle.text_answer.specs.Text.{newly_forbidden, stands_text, blame_text, refused_text};
+ghost use Rattle.std.specs.Prelude.{◌≡◌, ◌≤◌, ◌<◌, length};
+ghost use Rattle.text_answer.specs.Text.{newly_forbidden, refused_text};
 
-// Whether an item is newly forbidden, by its marks on the sheet and in the slip.
-fn is_new(before: u8, after: u8) -> bool
-    ensures { result ≡ (eqb before 0 && eqb after 2) }
-{
-    before == 0 && after == 2
-}
+use arrayvec::ArrayVec;
+use std::fmt;
+use text_lines::Line;
+use walks::{FORBIDDEN, GOALS, ITEMS, OPEN};
 
-// Writes the items newly forbidden, ascending, over the front of `list` and gives their count.
-pub fn newly_forbidden(marks: &[u8], slip: &[u8], list: &mut [usize]) -> usize
-    requires { (length marks.now < length slip.now) × (length marks.now ≤ length list.old) }
-    ensures { Put (newly_forbidden marks.now slip.now) list.old list.new result }
-{
-    let mut count: usize = 0;
-    let mut i: usize = 0;
-    while i < marks.len() {
-        if is_new(marks[i], slip[i + 1]) {
-            list[count] = i;
-            count += 1;
-        }
-        i += 1;
+// A refusal, by its number.
+#[derive(Clone, Copy, Debug, PartialEq, Eq)]
+pub struct Refused(pub u32);
+
+impl fmt::Display for Refused {
+    ghost use Rattle.std.specs.Prelude.{Some};
+
+    ghost output = { λ r. Some (refused_text r.0) };
+
+    #[tactic(auto, unfolding(crate::specs::Text::refused_text))]
+    fn fmt<W: fmt::Write>(&self, f: &mut fmt::Formatter<W>) -> fmt::Result {
+        let number = [self.0];
+        let line = Line {
+            word: "refused",
+            numbers: &number,
+        };
+        write!(f, "{line}")
     }
-    count
 }
 
-// Writes the text of verdict 0.
-pub fn put_stands(out: &mut [u8], struck: &[usize]) -> usize
-    requires { (small struck.now ≡ true) × (length (stands_text struck.now) ≤ length out.old) }
-    ensures { Put (stands_text struck.now) out.old out.new result }
-{
-    let verdict = [0usize; 1];
-    let at = text_lines::put_line(out, b"verdict", &verdict);
-    at + text_lines::put_line(&mut out[at..], b"struck", struck)
+// What the pass answers to a sheet.
+#[derive(Debug, Drop)]
+pub enum Report {
+    // The round stands, and these items are struck off.
+    Stands {
+        struck: ArrayVec<u32, ITEMS>,
+    },
+    // The round is refused: what it needs cannot be done, because of these closures.
+    Blames {
+        verdict: u32,
+        needs: ArrayVec<u32, GOALS>,
+        because: ArrayVec<u32, ITEMS>,
+    },
+    // The sheet is refused.
+    Refuses(u32),
 }
 
-// Writes the text of a refused round.
-pub fn put_blame(out: &mut [u8], first: usize, goals: &[usize], reasons: &[usize]) -> usize
-    requires { let text = blame_text (slip_from first goals.now reasons.now) in
-        (first < 5) × (small goals.now ≡ true) × (small reasons.now ≡ true) × (length text ≤ length out.old) }
-    ensures { Put (blame_text (slip_from first goals.now reasons.now)) out.old out.new result }
-{
-    let verdict = [first];
-    let at = text_lines::put_line(out, b"verdict", &verdict);
-    let end = at + text_lines::put_line(&mut out[at..], b"needs", goals);
-    end + text_lines::put_line(&mut out[end..], b"because", reasons)
+impl fmt::Display for Report {
+    ghost use Rattle.std.specs.Prelude.{Some};
+    ghost use Rattle.text_answer.specs.Report.{report_text};
+
+    ghost output = { λ r. Some (report_text r) };
+
+    #[tactic(auto, unfolding(crate::specs::Text::stands_text, crate::specs::Text::blame_text))]
+    fn fmt<W: fmt::Write>(&self, f: &mut fmt::Formatter<W>) -> fmt::Result {
+        match self {
+            Report::Stands { struck } => {
+                let verdict = Line {
+                    word: "verdict",
+                    numbers: &[0],
+                };
+                let struck = Line {
+                    word: "struck",
+                    numbers: struck,
+                };
+                write!(f, "{verdict}{struck}")
+            }
+            Report::Blames {
+                verdict,
+                needs,
+                because,
+            } => {
+                let first = [*verdict];
+                let verdict = Line {
+                    word: "verdict",
+                    numbers: &first,
+                };
+                let needs = Line {
+                    word: "needs",
+                    numbers: needs,
+                };
+                let because = Line {
+                    word: "because",
+                    numbers: because,
+                };
+                write!(f, "{verdict}{needs}{because}")
+            }
+            Report::Refuses(why) => {
+                let refused = Refused(*why);
+                write!(f, "{refused}")
+            }
+        }
+    }
 }
 
-// Writes the text of a refusal.
-pub fn put_refused(out: &mut [u8], why: u32) -> usize
-    requires { (why < 268435456) × (length (refused_text why) ≤ length out.old) }
-    ensures { Put (refused_text why) out.old out.new result }
+// The items newly forbidden, ascending: open on the sheet and shut by the slip.
+#[tactic(auto, using(crate::proofs::ListLaws::listing))]
+pub fn newly_forbidden(marks: &[u8], slip: &[u8]) -> ArrayVec<u32, ITEMS>
+    requires { (length marks.now < length slip.now) × (length marks.now ≤ 576) }
+    ensures { result.items ≡ newly_forbidden marks.now slip.now }
 {
-    let number = [why as usize];
-    text_lines::put_line(out, b"refused", &number)
+    let mut list = ArrayVec::new();
+    for i in 0..marks.len() {
+        if marks[i] == OPEN && slip[i + 1] == FORBIDDEN {
+            list.push(i as u32);
+        }
+    }
+    list
 }

@@ -1,8 +1,7 @@
-// What the tool prints for an item number and a sheet (document 02, request 2.4).
+// What the tool prints for an item number and a sheet.
 #![tactic(auto)]
 
-ghost use Rattle.std.specs.Prelude.{◌≡◌, [], ◌∷◌, ◌+◌, ◌≤◌, ◌<◌, length, take};
-ghost use Rattle.lists.specs.Lists.{Put};
+ghost use Rattle.std.specs.Prelude.{◌≡◌, [], ◌∷◌, ◌+◌, ◌<◌};
 ghost use Rattle.sheet.specs.Answer.{finished, answer_of};
 ghost use Rattle.sheet.specs.Sheet.{sheet_of};
 ghost use Rattle.sheet.specs.Slip.{slip_bytes};
@@ -10,89 +9,100 @@ ghost use Rattle.sheet_required.specs.Whole.{Whole};
 ghost use Rattle.pass_rules.specs.Verdict.{reasons_for, slip_for};
 ghost use Rattle.reason_rules.specs.Reason.{reason_on};
 ghost use Rattle.cost_rules.specs.Cost.{cost_lines, cost_for, text_of, cost_text};
+ghost use Rattle.text_cost.specs.Told.{told_text};
 
+use cost_lines::Costs;
 use sheet::Header;
-use sheet_reader::SheetRead;
-use slip_reader::SlipRead;
-use varint::Number;
+use std::fmt;
+use text_answer::Refused;
+use varint::Bytes;
 use walks::{ARC_NUMBERS, ITEMS};
 
-// What an item number draws: the bytes end in it, or it is badly written.
-const ENDS: u32 = 3;
-
-const OVERLONG: u32 = 4;
-
-// Writes the lines for an item, with the closures that its slip lists.
-fn put_listed(
-    out: &mut [u8],
-    header: Header,
-    arcs: &[u32],
-    marks: &[u8],
-    item: usize,
-    slip: &[u8],
-) -> usize
-    requires whole_with_room { Whole header arcs.now marks.now × (item < header.nodes + header.arcs) × (8192 ≤ length out.old) }
-    requires slip_of_item { slip_bytes (slip_for (sheet_of header arcs.now marks.now) 4 (item ∷ [])) ≡ slip.now }
-    ensures { let S = sheet_of header arcs.now marks.now in
-        Put (cost_lines S item (reasons_for S (item ∷ []))) out.old out.new result }
-{
-    let form = match slip_reader::judge_slip(slip) {
-        SlipRead::Got(form) => form,
-        SlipRead::Refused => return 0,
-    };
-    let count = form.reasons as usize;
-    let mut list = [0usize; ITEMS];
-    numbers::numbers_at(slip, form.reasons_at, count, &mut list);
-    cost_lines::put_cost(out, header, arcs, marks, item, &list[..count])
+// What is told of an item number and a sheet: what the closures cost, or a refusal.
+#[derive(Debug, Drop)]
+pub enum Told {
+    Costs(Costs),
+    Refuses(u32),
 }
 
-// Writes the lines for an item by the slip that reason wrote for it.
-fn put_explained(out: &mut [u8], sheet: &[u8], item: u32, slip: &[u8]) -> usize
-    requires { (reason_on sheet.now item ≡ finished slip.now) × (8192 ≤ length out.old) }
-    ensures { Put (text_of (answer_of (cost_for item sheet.now))) out.old out.new result }
+impl fmt::Display for Told {
+    ghost use Rattle.std.specs.Prelude.{Some};
+
+    ghost output = { λ t. Some (told_text t) };
+
+    fn fmt<W: fmt::Write>(&self, f: &mut fmt::Formatter<W>) -> fmt::Result {
+        match self {
+            Told::Costs(costs) => write!(f, "{costs}"),
+            Told::Refuses(why) => {
+                let refused = Refused(*why);
+                write!(f, "{refused}")
+            }
+        }
+    }
+}
+
+// What is told of an item by the slip for it, with the closures that the slip lists.
+fn listed(header: Header, arcs: &[u32], marks: &[u8], item: usize, slip: &[u8]) -> Told
+    requires { Whole header arcs.now marks.now × (item < header.nodes + header.arcs)
+        × (slip_bytes (slip_for (sheet_of header arcs.now marks.now) 4 (item ∷ [])) ≡ slip.now) }
+    ensures { let S = sheet_of header arcs.now marks.now in
+        told_text result ≡ cost_lines S item (reasons_for S (item ∷ [])) }
+{
+    match slip_reader::judge_slip(slip) {
+        Ok(form) => {
+            let mut list = [0usize; ITEMS];
+            let closures = form.reasons.read(&mut list);
+            Told::Costs(cost_lines::weigh(header, arcs, marks, item, closures))
+        }
+        // never: reason wrote it
+        Err(why) => Told::Refuses(u32::from(why)),
+    }
+}
+
+// What is told of an item by the slip that reason wrote for it.
+fn explained(sheet: &[u8], item: u32, slip: &[u8]) -> Told
+    requires { reason_on sheet.now item ≡ finished slip.now }
+    ensures { told_text result ≡ text_of (answer_of (cost_for item sheet.now)) }
 {
     let mut arcs = [0u32; ARC_NUMBERS];
     let mut marks = [0u8; ITEMS];
-    let header = match sheet_reader::read(sheet, &mut arcs, &mut marks) {
-        SheetRead::Got(header) => header,
-        SheetRead::Refused(_) => return 0,
-    };
-    let numbers = 3 * header.arcs;
-    let items = header.nodes + header.arcs;
-    put_listed(
-        out,
-        header,
-        &arcs[..numbers],
-        &marks[..items],
-        item as usize,
-        slip,
-    )
+    match sheet_reader::read(sheet, &mut arcs, &mut marks) {
+        Ok(header) => {
+            let numbers = 3 * header.arcs;
+            let items = header.nodes + header.arcs;
+            listed(
+                header,
+                &arcs[..numbers],
+                &marks[..items],
+                item as usize,
+                slip,
+            )
+        }
+        // never: reason has read it
+        Err(why) => Told::Refuses(u32::from(why)),
+    }
 }
 
-// Writes what the tool prints for an item number that was read and the sheet behind it.
-fn put_answer(out: &mut [u8], sheet: &[u8], item: u32) -> usize
-    requires { 8192 ≤ length out.old }
-    ensures { Put (text_of (answer_of (cost_for item sheet.now))) out.old out.new result }
+// What is told of an item number that was read and the sheet behind it.
+fn answered(sheet: &[u8], item: u32) -> Told
+    ensures { told_text result ≡ text_of (answer_of (cost_for item sheet.now)) }
 {
     let mut slip = [0u8; pass::SLIP_BYTES];
     let answer = reason::reason_sheet(sheet, &mut slip, item);
     if 0 < answer.number {
-        return text_answer::put_refused(out, answer.number);
+        return Told::Refuses(answer.number);
     }
     let length = answer.length;
-    put_explained(out, sheet, item, &slip[..length])
+    explained(sheet, item, &slip[..length])
 }
 
-// Reads an item number and the sheet behind it, writes what the closures cost over the front of `out` and gives the text's length. The last clause follows
-// from the first; it lets a caller take that part of `out` with no proof of its own.
-pub fn report_cost(input: &[u8], out: &mut [u8]) -> usize
-    requires { 8192 ≤ length out.old }
-    ensures text_in_front { Put (cost_text input.now) out.old out.new result }
-    ensures length_inside { (result ≤ length out.new) × (result ≡ length (take result out.new)) }
+// Reads an item number and the sheet behind it, and tells what the closures cost.
+pub fn report_cost(input: &[u8]) -> Told
+    ensures { told_text result ≡ cost_text input.now }
 {
-    match varint::number_at(input, 0) {
-        Number::Got(item, next) => put_answer(out, &input[next..], item),
-        Number::Ends => text_answer::put_refused(out, ENDS),
-        Number::Overlong => text_answer::put_refused(out, OVERLONG),
+    let mut bytes = Bytes { rest: input };
+    match bytes.take_number() {
+        Ok(item) => answered(bytes.rest, item),
+        Err(fault) => Told::Refuses(u32::from(fault)),
     }
 }

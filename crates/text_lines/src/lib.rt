@@ -1,85 +1,55 @@
-// Lines of text, written over the front of a lent slice: a word and decimal numbers behind it, or a number alone.
+// Lines of text: a word and decimal numbers behind it, or a number alone.
 #![tactic(auto)]
 
-ghost use Rattle.std.specs.Prelude.{◌≡◌, true, ◌≤◌, length};
-ghost use Rattle.lists.specs.Lists.{Put};
-ghost use Rattle.varint.specs.Answer.{small};
-ghost use Rattle.text_lines.specs.Lines.{decimal, spaced, row, line, number_line, difference_line};
+ghost use Rattle.std.specs.Prelude.{Some};
+ghost use Rattle.text_lines.specs.Lines.{line, number_line, difference_line};
 
-const SPACE: u8 = 32;
+use std::fmt;
 
-const LINE_END: u8 = 10;
+// A word, and numbers each behind a space.
+#[derive(Clone, Copy, Debug, PartialEq, Eq)]
+pub struct Line<'a> {
+    pub word: &'a str,
+    pub numbers: &'a [u32],
+}
 
-const MINUS: u8 = 45;
+impl fmt::Display for Line<'_> {
+    ghost output = { λ l. Some (line l.word.now l.numbers.now) };
 
-const DIGIT_ZERO: u32 = 48;
-
-// Writes the number in decimal and gives the count of bytes.
-fn put_decimal(out: &mut [u8], number: u32) -> usize
-    requires { length (decimal number) ≤ length out.old }
-    ensures { Put (decimal number) out.old out.new result }
-{
-    if number < 10 {
-        out[0] = (DIGIT_ZERO + number) as u8;
-        return 1;
+    fn fmt<W: fmt::Write>(&self, f: &mut fmt::Formatter<W>) -> fmt::Result {
+        f.write_str(self.word)?;
+        for number in self.numbers {
+            write!(f, " {number}")?;
+        }
+        f.write_str("\n")
     }
-    let at = put_decimal(out, number / 10);
-    out[at] = (DIGIT_ZERO + number % 10) as u8;
-    at + 1
 }
 
-// Writes a space and the number.
-fn put_spaced(out: &mut [u8], number: u32) -> usize
-    requires { length (spaced number) ≤ length out.old }
-    ensures { Put (spaced number) out.old out.new result }
-{
-    out[0] = SPACE;
-    1 + put_decimal(&mut out[1..], number)
-}
+// A number alone on its line.
+#[derive(Clone, Copy, Debug, PartialEq, Eq)]
+pub struct NumberLine(pub u32);
 
-// Writes the numbers, each behind a space.
-fn put_row(out: &mut [u8], numbers: &[usize]) -> usize
-    requires { (small numbers.now ≡ true) × (length (row numbers.now) ≤ length out.old) }
-    ensures { Put (row numbers.now) out.old out.new result }
-{
-    let mut at: usize = 0;
-    let mut j: usize = 0;
-    while j < numbers.len() {
-        at += put_spaced(&mut out[at..], numbers[j] as u32);
-        j += 1;
+impl fmt::Display for NumberLine {
+    ghost output = { λ l. Some (number_line l.0) };
+
+    fn fmt<W: fmt::Write>(&self, f: &mut fmt::Formatter<W>) -> fmt::Result {
+        let number = self.0;
+        write!(f, "{number}\n")
     }
-    at
 }
 
-// Writes a line, the word and the numbers behind it, over the front of `out` and gives its length.
-pub fn put_line(out: &mut [u8], word: &[u8], numbers: &[usize]) -> usize
-    requires { (small numbers.now ≡ true) × (length (line word.now numbers.now) ≤ length out.old) }
-    ensures { Put (line word.now numbers.now) out.old out.new result }
-{
-    let at = numbers::put_bytes(out, word);
-    let end = at + put_row(&mut out[at..], numbers);
-    out[end] = LINE_END;
-    end + 1
+// `whole` − `part` alone on its line, behind a minus where it is negative.
+#[derive(Clone, Copy, Debug, PartialEq, Eq)]
+pub struct DifferenceLine {
+    pub whole: u32,
+    pub part: u32,
 }
 
-// Writes the number alone on its line.
-pub fn put_number_line(out: &mut [u8], number: u32) -> usize
-    requires { length (number_line number) ≤ length out.old }
-    ensures { Put (number_line number) out.old out.new result }
-{
-    let at = put_decimal(out, number);
-    out[at] = LINE_END;
-    at + 1
-}
+impl fmt::Display for DifferenceLine {
+    ghost output = { λ l. Some (difference_line l.whole l.part) };
 
-// Writes `whole` − `part` alone on its line, behind a minus where it is negative.
-pub fn put_difference_line(out: &mut [u8], whole: u32, part: u32) -> usize
-    requires { length (difference_line whole part) ≤ length out.old }
-    ensures { Put (difference_line whole part) out.old out.new result }
-{
-    if part <= whole {
-        return put_number_line(out, whole - part);
+    fn fmt<W: fmt::Write>(&self, f: &mut fmt::Formatter<W>) -> fmt::Result {
+        let difference = i64::from(self.whole) - i64::from(self.part);
+        write!(f, "{difference}\n")
     }
-    out[0] = MINUS;
-    1 + put_number_line(&mut out[1..], part - whole)
 }

@@ -1,20 +1,12 @@
--- The text of a slip that the pass wrote: which of the two kinds it has, that its numbers are few and small, and that the items it calls struck are those
--- that are pruned. Assumes nothing.
+-- The text of a slip that the pass wrote: which of the two kinds it has, that the slip is long enough for the marks, and that its numbers read back and
+-- are few. Assumes nothing.
 use Prim.Native.Nat.{ℕ, ◌≤◌, ◌<◌}
 use mathlib.Core.Path.{◌≡◌, refl, sym, ap, ◌∙◌, subst}
-use mathlib.Core.Bool.{true, ◌&&◌}
 use mathlib.Core.List.{List, [], ◌∷◌}
 use native.Mathlib.Omega.{arith}
-use lib.ListN.{length, get_or}
-use lib.Dec.{eqb}
+use lib.ListN.{length}
 use borrow.Author.Tests.{eq-eqb, ne_eqb}
-use Rattle.lists.specs.Lists.{span}
-use Rattle.lists.proofs.AscendLaws.{keep_ascends, ascends_distinct, span_member}
-use Rattle.lists.proofs.MemberLaws.{keep_member}
-use Rattle.lists.proofs.Pigeonhole.{Below, below_all, pigeonhole}
-use Rattle.varint.proofs.WriteLaws.{small_below}
 use Rattle.varint.specs.Varint.{got, refuse}
-use Rattle.varint.specs.Answer.{small}
 use Rattle.walks.specs.Graph.{item_count}
 use Rattle.sheet.specs.Good.{Good}
 use Rattle.sheet.specs.Reader.{taken}
@@ -22,17 +14,15 @@ use Rattle.sheet.specs.Sheet.{Sheet}
 use Rattle.sheet.specs.Slip.{Slip, slip_bytes, read_slip}
 use Rattle.sheet.proofs.SheetLaws.{taken_got, taken_good}
 use Rattle.sheet.proofs.SlipLaws.{Small, slip_back}
-use Rattle.slip_reader.specs.declared.SlipForm.{SlipForm}
-use Rattle.slip_reader.specs.declared.SlipRead.TheVariants.{Got as SlipGot, Refused as SlipRefused}
-use Rattle.slip_reader.specs.Form.{slip_from, values_at, slip_of, SlipCounts}
+use Rattle.slip_reader.specs.declared.form.SlipForm.{SlipForm}
+use Rattle.slip_reader.specs.Form.{slip_in}
 use Rattle.sheet.specs.Answer.{finished}
-use Rattle.pass_rules.specs.Pass.{pass_on, verdict_in, mark_in}
+use Rattle.pass_rules.specs.Pass.{pass_on, verdict_in}
 use Rattle.pass_rules.specs.Verdict.{verdict, slip_for, pass_slip}
 use Rattle.pass_rules.proofs.Demand2.{finished_is}
 use Rattle.pass_rules.proofs.WithinLaws.{pass_took}
 use Rattle.pass_rules.proofs.SlipOfPass.{PassSlipIs, marks, blames, pass_slip_is, pass_finishes, slip_first, new_marks_size}
 use Rattle.text_answer.specs.Text.{newly_forbidden, stands_text, blame_text, marks_of, blamed, slip_text}
-use Rattle.text_answer.proofs.LineParts.{stands_size, blame_size}
 
 -- a sheet on which the pass finishes with this slip
 pub record Passed (sheet slip : List ℕ) : Type 0 where
@@ -65,27 +55,11 @@ slip_some sheet slip e = let P = passed_slip sheet slip e in go P.read slip P.ki
     go S bs (marks z) = omega arith
     go S bs (blames l s) = some (slip_bytes (slip_for S (verdict S).number (verdict S).goals)) (omega (arith, l, slip_first (slip_for S (verdict S).number (verdict S).goals) s))
 
--- the items newly forbidden are few and small
-newly_below : (ms slip : List ℕ) → Below (length ms) (newly_forbidden ms slip)
-unfolding newly_forbidden
-newly_below ms slip =
-    below_all (length ms) (newly_forbidden ms slip)
-    (λ x m. let s = span_member (length ms) 0 x (keep_member _ x (span (length ms) 0) m).0 in omega (arith, s.1))
-
-newly_few : (ms slip : List ℕ) → length (newly_forbidden ms slip) ≤ length ms
-unfolding newly_forbidden
-newly_few ms slip =
-    pigeonhole (length ms) (newly_forbidden ms slip)
-    (ascends_distinct (newly_forbidden ms slip) (keep_ascends (λ i. eqb (get_or ms i 0) 0 && eqb (mark_in slip i) 2) (length ms) 0)) (newly_below ms slip)
-
 -- verdict 0, with the sheet's marks in hand
 pub record Stands (sheet slip ms : List ℕ) : Type 0 where
   pub longer : length ms < length slip
   pub few : length ms ≤ 576
   pub printed : slip_text sheet slip ≡ stands_text (newly_forbidden ms slip)
-  pub listed : length (newly_forbidden ms slip) ≤ 576
-  pub small : small (newly_forbidden ms slip) ≡ true
-  pub room : length (stands_text (newly_forbidden ms slip)) ≤ 8192
 
 pub stands_is : (sheet slip ms : List ℕ) (S : Sheet) → pass_on sheet ≡ finished slip → verdict_in slip ≡ 0 → taken sheet ≡ got S [] → ms ≡ S.marks → Stands sheet slip ms
 unfolding slip_text marks_of slip_for
@@ -97,62 +71,44 @@ stands_is sheet slip ms S e z t m = let P = passed_slip sheet slip e in go P.rea
         let r : R ≡ S = cc in
         let n : length ms ≡ item_count R.graph = rw (m, ← r) g.size in
         let k : length ms ≤ 576 = omega (arith, n, g.nodes, g.arcs) in
-        let f : length (newly_forbidden ms slip) ≤ 576 = omega (arith, newly_few ms slip) in
-        record {
-          longer = omega (arith, ap length y, new_marks_size R, n);
-          few = k;
-          printed = rw (eq-eqb (verdict_in slip) 0 z, t, m);
-          listed = f;
-          small = small_below (length ms) (newly_forbidden ms slip) (omega arith) (newly_below ms slip);
-          room = stands_size (newly_forbidden ms slip) f;
-        }
+        record { longer = omega (arith, ap length y, new_marks_size R, n); few = k; printed = rw (eq-eqb (verdict_in slip) 0 z, t, m) }
 
 -- a refused round: its slip reads back
-record Blame (sheet slip : List ℕ) : Type 0 where
+record Blame (slip : List ℕ) : Type 0 where
   pub read : Slip
   pub says : read_slip slip ≡ got read []
   pub small : Small read
-  pub printed : slip_text sheet slip ≡ blame_text read
 
-blame_is : (sheet slip : List ℕ) → pass_on sheet ≡ finished slip → (verdict_in slip ≡ 0 → ⊥) → Blame sheet slip
-unfolding slip_text blamed
+blame_is : (sheet slip : List ℕ) → pass_on sheet ≡ finished slip → (verdict_in slip ≡ 0 → ⊥) → Blame slip
 blame_is sheet slip e z = let P = passed_slip sheet slip e in go P.read slip P.kind refl
   where
-    go : (R : Sheet) (bs : List ℕ) → PassSlipIs R bs → slip ≡ bs → Blame sheet slip
+    go : (R : Sheet) (bs : List ℕ) → PassSlipIs R bs → slip ≡ bs → Blame slip
     go R bs (marks w) y = absurd (z (ap verdict_in y))
     go R bs (blames l s) y =
         let b : read_slip slip ≡ got (slip_for R (verdict R).number (verdict R).goals) [] = ap read_slip y ∙ slip_back (slip_for R (verdict R).number (verdict R).goals) s in
-        record { read = slip_for R (verdict R).number (verdict R).goals; says = b; small = s; printed = rw (ne_eqb (verdict_in slip) 0 z, b) }
+        record { read = slip_for R (verdict R).number (verdict R).goals; says = b; small = s }
 
 -- what the slip's reader gives of it
-pub record Told (sheet slip : List ℕ) (f : SlipForm) : Type 0 where
-  pub first : f.first < 5
-  pub counts : SlipCounts slip (SlipGot f)
-  pub few : f.goals ≤ 8
-  pub many : f.reasons ≤ 576
-  pub goals : small (values_at slip f.goals f.goals_at) ≡ true
-  pub reasons : small (values_at slip f.reasons f.reasons_at) ≡ true
-  pub printed : slip_text sheet slip ≡ blame_text (slip_from f.first (values_at slip f.goals f.goals_at) (values_at slip f.reasons f.reasons_at))
-  pub room : length (blame_text (slip_from f.first (values_at slip f.goals f.goals_at) (values_at slip f.reasons f.reasons_at))) ≤ 8192
+pub record Told (slip : List ℕ) (f : SlipForm) : Type 0 where
+  pub few : f.goals.count ≤ 8
+  pub many : f.reasons.count ≤ 576
+  pub printed : blamed (read_slip slip) ≡ blame_text (slip_in f)
 
 module _ (sheet slip : List ℕ) (e : pass_on sheet ≡ finished slip) (z : verdict_in slip ≡ 0 → ⊥) where
-  pub never_unformed : slip_of slip SlipRefused ≡ read_slip slip → ⊥
+  pub never_unformed : read_slip slip ≡ refuse 17 → ⊥
   never_unformed u = let B = blame_is sheet slip e z in let y : ◌≡◌ {A = ℕ} 0 1 = cc B.says in omega arith
 
-  pub told : (f : SlipForm) → slip_of slip (SlipGot f) ≡ read_slip slip → SlipCounts slip (SlipGot f) → Told sheet slip f
-  told f u n = go (blame_is sheet slip e z)
+  pub told : (f : SlipForm) → read_slip slip ≡ got (slip_in f) [] → Told slip f
+  unfolding blamed
+  told f u = go (blame_is sheet slip e z)
     where
-      go : Blame sheet slip → Told sheet slip f
+      go : Blame slip → Told slip f
       go B =
-          let s : slip_from f.first (values_at slip f.goals f.goals_at) (values_at slip f.reasons f.reasons_at) ≡ B.read = cc B.says in
-          let m : Small (slip_from f.first (values_at slip f.goals f.goals_at) (values_at slip f.reasons f.reasons_at)) = subst Small (sym s) B.small in
-          record {
-            first = omega (arith, m.high);
-            counts = n;
-            few = omega (arith, m.few, n.0);
-            many = omega (arith, m.many, n.1);
-            goals = small_below 16384 _ (omega arith) m.goals;
-            reasons = small_below 16384 _ (omega arith) m.reasons;
-            printed = B.printed ∙ ap blame_text (sym s);
-            room = blame_size _ m.few m.many;
-          }
+          let s : slip_in f ≡ B.read = cc B.says in
+          let m : Small (slip_in f) = subst Small (sym s) B.small in
+          record { few = omega (arith, m.few, f.goals.counted); many = omega (arith, m.many, f.reasons.counted); printed = ap blamed u }
+
+-- the text of a slip, by its verdict
+pub blamed_text : (sheet slip : List ℕ) → (verdict_in slip ≡ 0 → ⊥) → slip_text sheet slip ≡ blamed (read_slip slip)
+unfolding slip_text
+blamed_text sheet slip z = rw (ne_eqb (verdict_in slip) 0 z)

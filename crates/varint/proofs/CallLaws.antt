@@ -1,95 +1,54 @@
--- On the code: the contract of `number_at` allows one answer (bytes behind a position at most as long as the slice fix that position), so the bytes
--- that decide what `read_number` answers decide what a call answers. Assumes nothing.
-use Prim.Native.Nat.{ℕ, ◌+◌, ◌-◌, ◌≤◌, ◌<◌}
-use mathlib.Core.Path.{◌≡◌, refl, sym, ap, ◌∙◌, subst}
-use mathlib.Core.Bool.{Bool, true, false}
-use mathlib.Core.List.{List, [], ◌++◌, append_assoc, append_cancel_right}
+-- On the code: the contract of `take_number` allows one answer, so the bytes that decide what `read_number` answers decide what a call answers. Assumes
+-- nothing.
+use Prim.Native.Nat.{ℕ}
+use mathlib.Core.Path.{◌≡◌, refl, sym, ap, ◌∙◌}
+use mathlib.Core.List.{List, ◌++◌}
 use native.Mathlib.Omega.{arith}
-use lib.ListN.{length, take, drop, length-append, length-take, length-drop, take-append-drop, drop_of_length-le}
-use lib.Dec.{ltb}
-use lib.Seq.{drop-append_seam, take-append-add}
-use borrow.Author.Tests.{ltb-true, ltb-false}
-use Rattle.varint.specs.declared.Number.{Number}
-use Rattle.varint.specs.declared.Number.TheVariants.{Got, Ends, Overlong}
+use lib.ListN.{take}
+use Rattle.std.specs.Prelude.{Result, Ok, Err}
+use Rattle.varint.specs.declared.refusal.Refusal.{Refusal}
+use Rattle.varint.specs.declared.refusal.Refusal.TheVariants.{Ends, Overlong}
 use Rattle.varint.specs.Varint.{Read, got, refuse, read_number}
-use Rattle.varint.specs.Answer.{read_of, end_of}
-use Rattle.varint.specs.Decided.{Decided, Allowed, TheAnswer, DecidedCall}
-use Rattle.varint.proofs.DecidedLaws.{number_decided, overlong_decided, short_ends}
+use Rattle.varint.specs.Refusal.{number_of}
+use Rattle.varint.specs.Decided.{Decided, Allowed, TheAnswer, DecidedCall, left}
+use Rattle.varint.proofs.DecidedLaws.{number_decided, overlong_decided}
+use Rattle.varint.proofs.RefusalLaws.{one_refusal}
+use Rattle.varint.proofs.VarintLaws.{got_both}
 
--- the contract of `number_at` allows one answer
-pub allowed_one : (s : List ℕ) (at : ℕ) (r : Number) → Allowed s at r → TheAnswer s at r
-allowed_one s at r a = (a, λ other b. go other r (b.0 ∙ sym a.0) b.1 a.1)
+not_both : {x e : ℕ} {rest : List ℕ} → got x rest ≡ refuse e → ⊥
+not_both e = let z : ◌≡◌ {A = ℕ} 0 1 = cc in omega arith
+
+refusals : (d e : ℕ) → ◌≡◌ {A = Read ℕ} (refuse d) (refuse e) → d ≡ e
+refusals d e q = cc
+
+-- the contract of `take_number` allows one answer
+pub allowed_one : (s : List ℕ) (r : Result ℕ Refusal) (rest : List ℕ) → Allowed s r rest → TheAnswer s r rest
+allowed_one s r rest a = (a, λ r' rest' b. go r r' a b)
   where
-    go : (r r' : Number) → read_of s r ≡ read_of s r' → end_of r ≤ length s → end_of r' ≤ length s → r ≡ r'
-    go (Got x n) (Got y m) e h h' =
-        let v : x ≡ y = cc in
-        let d : drop n s ≡ drop m s = cc in
-        let l = ap length d in
-        let z : n ≡ m = omega (arith, l, length-drop n s, length-drop m s) in
-        rw (v, z)
-    go (Got x n) Ends e h h' = absurd (let z : ◌≡◌ {A = ℕ} 0 1 = cc in omega arith)
-    go (Got x n) Overlong e h h' = absurd (let z : ◌≡◌ {A = ℕ} 0 1 = cc in omega arith)
-    go Ends (Got y m) e h h' = absurd (let z : ◌≡◌ {A = ℕ} 0 1 = cc in omega arith)
-    go Ends Ends e h h' = refl
-    go Ends Overlong e h h' = absurd (let z : ◌≡◌ {A = ℕ} 3 4 = cc in omega arith)
-    go Overlong (Got y m) e h h' = absurd (let z : ◌≡◌ {A = ℕ} 0 1 = cc in omega arith)
-    go Overlong Ends e h h' = absurd (let z : ◌≡◌ {A = ℕ} 4 3 = cc in omega arith)
-    go Overlong Overlong e h h' = refl
+    go : (r r' : Result ℕ Refusal) {rest rest' : List ℕ} → Allowed s r rest → Allowed s r' rest' → (r' ≡ r) × (rest' ≡ rest)
+    go (Ok x) (Ok y) {rest} {rest'} a b = let z = got_both y x rest' rest (sym b.got ∙ a.got) in (ap Ok z.0, z.1)
+    go (Ok x) (Err w) a b = absurd (not_both (sym a.got ∙ b.refused))
+    go (Err v) (Ok y) a b = absurd (not_both (sym b.got ∙ a.refused))
+    go (Err v) (Err w) a b = (ap Err (one_refusal w v (refusals (number_of w) (number_of v) (sym b.refused ∙ a.refused))), b.kept ∙ sym a.kept)
 
-module _ (q : List ℕ) {bs : List ℕ} {answer : List ℕ → Read ℕ} (d : Decided read_number 4 bs answer) where
-  -- what a call reads, where the deciding bytes stand behind q
-  from_seam : (t : List ℕ) → drop (length q) ((q ++ d.bytes) ++ t) ≡ d.bytes ++ t
-  from_seam t = rw (append_assoc q d.bytes t) (drop-append_seam q (d.bytes ++ t))
+module _ {bs : List ℕ} {answer : List ℕ → Read ℕ} (d : Decided read_number 4 bs answer) where
+  decided_call : (r : Result ℕ Refusal) → ((t : List ℕ) → Allowed (d.bytes ++ t) r (left r d.bytes t)) → DecidedCall d.bytes r
+  decided_call r a = record {
+    some = d.some;
+    few = d.few;
+    again = λ t. allowed_one (d.bytes ++ t) r (left r d.bytes t) (a t);
+    before = λ k h. allowed_one (take k d.bytes) (Err Ends) (take k d.bytes) (record { got = tt; refused = d.before k h; kept = refl; small = tt });
+  }
 
-  cut_off : (k : ℕ) → k < length (q ++ d.bytes) → refuse 3 ≡ read_number (drop (length q) (take k (q ++ d.bytes)))
-  cut_off k h = go (ltb k (length q)) refl
-    where
-      go : (b : Bool) → ltb k (length q) ≡ b → refuse 3 ≡ read_number (drop (length q) (take k (q ++ d.bytes)))
-      go true g =
-          let l : length (take k (q ++ d.bytes)) ≤ length q = omega (arith, length-take k (q ++ d.bytes), ltb-true k (length q) g) in
-          rw (drop_of_length-le (take k (q ++ d.bytes)) l) (sym (short_ends [] (omega arith, λ i n. absurd (omega arith))))
-      go false g =
-          let l = ltb-false k (length q) g in
-          let j = k - length q in
-          let m : k ≡ length q + j = omega arith in
-          let z : take k (q ++ d.bytes) ≡ q ++ take j d.bytes = ap (λ (n : ℕ). take n (q ++ d.bytes)) m ∙ take-append-add q d.bytes j in
-          rw (z, drop-append_seam q (take j d.bytes)) (sym (d.before j (omega (arith, length-append q d.bytes))))
-
-  decided_call : (r : Number) → ((t : List ℕ) → read_of ((q ++ d.bytes) ++ t) r ≡ answer t) → end_of r ≤ length (q ++ d.bytes)
-      → DecidedCall (q ++ d.bytes) (length q) r
-  decided_call r e h =
-      let l = length-append q d.bytes in
-      record {
-        some = omega (arith, l, d.some);
-        few = omega (arith, l, d.few);
-        again = λ t. allowed_one ((q ++ d.bytes) ++ t) (length q) r (e t ∙ sym (d.again t) ∙ ap read_number (sym (from_seam t)), omega (arith, h, length-append (q ++ d.bytes) t));
-        before = λ k g. allowed_one (take k (q ++ d.bytes)) (length q) Ends (cut_off k g, omega arith);
-      }
-
--- the bytes before the position, and those that decide, are the front of what is read
-module _ (s : List ℕ) (at : ℕ) {answer : List ℕ → Read ℕ} (d : Decided read_number 4 (drop at s) answer) where
-  at_seam : length (take at s) ≡ at
-  at_seam =
-      let l = ap length d.parts in
-      omega (arith, l, length-take at s, length-drop at s, length-append d.bytes d.rest, d.some)
-
-  whole : s ≡ (take at s ++ d.bytes) ++ d.rest
-  whole = sym (take-append-drop at s) ∙ ap (take at s ++◌) d.parts ∙ sym (append_assoc (take at s) d.bytes d.rest)
-
--- once `number_at` has a number, bytes from its end on have no effect on value or end
-pub call_decided : (p t : List ℕ) (at x : ℕ) → Allowed (p ++ t) at (Got x (length p)) → DecidedCall p at (Got x (length p))
-call_decided p t at x a =
-    let e = number_decided (drop at (p ++ t)) x (drop (length p) (p ++ t)) (sym a.0) in
-    let q = take at (p ++ t) in
+-- once `take_number` has a number, the bytes that are left have no effect on it
+pub call_decided : (s : List ℕ) (x : ℕ) (rest : List ℕ) → Allowed s (Ok x) rest → (p : List ℕ) × (s ≡ p ++ rest) × DecidedCall p (Ok x)
+call_decided s x rest a =
+    let e = number_decided s x rest a.got in
     let d = e.0 in
-    let r : d.rest ≡ t = e.1 ∙ drop-append_seam p t in
-    let z : q ++ d.bytes ≡ p = append_cancel_right (q ++ d.bytes) p t (ap ((q ++ d.bytes) ++◌) (sym r) ∙ sym (whole (p ++ t) at d)) in
-    subst (λ (n : ℕ). DecidedCall p n (Got x (length p))) (at_seam (p ++ t) at d)
-    (subst (λ (l : List ℕ). DecidedCall l (length q) (Got x (length l))) z
-    (decided_call q d (Got x (length (q ++ d.bytes))) (λ u. ap (got x) (drop-append_seam (q ++ d.bytes) u)) (omega arith)))
+    (d.bytes, d.parts ∙ ap (d.bytes ++◌) e.1, decided_call d (Ok x) (λ t. record { got = d.again t; refused = tt; kept = tt; small = a.small }))
 
 -- once it draws 4, bytes from there on have no effect
-pub call_overlong : (s : List ℕ) (at : ℕ) → Allowed s at Overlong → (p : List ℕ) × (t : List ℕ) × (s ≡ p ++ t) × DecidedCall p at Overlong
-call_overlong s at a =
-    let d = overlong_decided (drop at s) (sym a.0) in
-    (take at s ++ d.bytes, d.rest, whole s at d, subst (λ (n : ℕ). DecidedCall (take at s ++ d.bytes) n Overlong) (at_seam s at d) (decided_call (take at s) d Overlong (λ t. refl) (omega arith)))
+pub call_overlong : (s rest : List ℕ) → Allowed s (Err Overlong) rest → (p : List ℕ) × (t : List ℕ) × (s ≡ p ++ t) × DecidedCall p (Err Overlong)
+call_overlong s rest a =
+    let d = overlong_decided s a.refused in
+    (d.bytes, d.rest, d.parts, decided_call d (Err Overlong) (λ t. record { got = tt; refused = d.again t; kept = refl; small = tt }))

@@ -1,7 +1,9 @@
 pub mod VarintLaws
 pub mod ReadLaws
 pub mod DecidedLaws
+pub mod RefusalLaws
 pub mod CallLaws
 pub mod WriteLaws
 pub mod AgainLaws
 pub mod SizeLaws
+pub mod TakeLaws

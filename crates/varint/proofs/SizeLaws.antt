@@ -43,6 +43,8 @@ module _ (x : ℕ) where
       groups_more 2 x (omega arith)
       (groups_more 1 (x / 128) (omega arith) (groups_more 0 (x / 128 / 128) (omega arith) (last_size 0 (x / 128 / 128 / 128) (omega arith))))
 
+pub ruleset sized = (size_one, size_two, size_three, size_four)
+
 groups_few : (k x : ℕ) → length (write_groups k x) ≤ suc k
 unfolding write_groups
 groups_few zero x = omega arith

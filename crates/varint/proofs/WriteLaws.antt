@@ -57,6 +57,9 @@ module _ {x : ℕ} {d out : List ℕ} {rest i : ℕ} (w : Writing x d out rest i
   pub kept : length (write_number x) ≤ length d → length out ≡ length d
   kept h = let r : i < length d = room h in ap length w.holds ∙ length_front w.xs d (omega (arith, w.size))
 
+  pub within : length (write_number x) ≤ length d → i < length out
+  within h = omega (arith, room h, kept h)
+
   pub written : length (write_number x) ≤ length d → rest ≤ 127 → (i + 1 ≡ length (write_number x)) × (set out i rest ≡ front (write_number x) d)
   written h l =
       let e : write_number x ≡ w.xs ++ (rest ∷ []) = w.same ∙ ap (λ (ys : List ℕ). w.xs ++ ys) (groups_last w.k rest l) in (
@@ -82,6 +85,8 @@ pub more :
     {x : ℕ} {d out : List ℕ} {rest i : ℕ} → Writing x d out rest i → i < length d → 127 < rest
     → Writing x d (set out i (128 + rest % 128)) (rest / 128) (i + 1)
 more w h g = more_at w.k w.xs w.size w.holds w.same w.small h g
+
+pub ruleset writing = (begun, room, within, more)
 
 pub small_at : (xs : List ℕ) (i : ℕ) → small xs ≡ true → i < length xs → get_or xs i 0 < 268435456
 unfolding small every

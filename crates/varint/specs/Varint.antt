@@ -1,4 +1,4 @@
--- Numbers in groups of seven bits, lowest group first, the high bit of a byte set when another group follows (document 01, 'Sheet and slip').
+-- Numbers in groups of seven bits, lowest group first, the high bit of a byte set when another group follows (docs/FORMATS.md, 'Numbers').
 use Rattle.std.specs.Prelude.{ℕ, zero, suc, ◌+◌, ◌-◌, ◌*◌, ◌/◌, ◌%◌, Bool, ◌&&◌, List, [], ◌∷◌, ◌++◌, eqb, ltb}
 use Rattle.lists.specs.Lists.{pick}
 

@@ -1,4 +1,4 @@
--- What a call leaves in the work that it is lent as bytes, four per number, low byte first (document 01, 'The operations and what they refuse').
+-- What a call leaves in the work that it is lent as bytes, four per number, low byte first.
 use Rattle.std.specs.Prelude.{ℕ, List, ◌++◌, drop, leb}
 use Rattle.lists.specs.Lists.{pick}
 use Rattle.sheet.specs.Lent.{zeros}

@@ -1,5 +1,4 @@
-// The work that an operation is lent, as numbers or as bytes, what a call leaves in it, and what it answers (document 01, 'The operations and what they
-// refuse').
+// The work that an operation is lent, as numbers or as bytes, what a call leaves in it, and what it answers (docs/FORMATS.md, 'What is refused').
 
 #![tactic(auto)]
 
@@ -18,63 +17,39 @@ pub const WORK_BYTES: usize = 65536;
 const LAST_UNTOUCHED: u32 = 13;
 
 // What every call that writes into one slice answers: the refusal number, 0 where it finished, and the length of what it wrote there.
-#[derive(Clone, Copy)]
+#[derive(Clone, Copy, Debug, PartialEq, Eq)]
 pub struct Answer {
     pub number: u32,
     pub length: usize,
 }
 
-// Leaves the first 16,384 work numbers zero and the rest as found.
-fn zero(work: &mut [u32])
-    requires { work_numbers ≤ length work.old }
-    ensures { work.new ≡ zeroed work.old }
-{
-    let mut i: usize = 0;
-    while i < WORK_NUMBERS {
-        work[i] = 0;
-        i += 1;
-    }
-}
-
-// Leaves the first 65,536 work bytes zero and the rest as found.
-fn zero_bytes(work: &mut [u8])
-    requires { work_bytes ≤ length work.old }
-    ensures { work.new ≡ zeroed_bytes work.old }
-{
-    let mut i: usize = 0;
-    while i < WORK_BYTES {
-        work[i] = 0;
-        i += 1;
-    }
-}
-
 // Whether a call with this refusal number, 0 where it finished, leaves the work zero.
+#[tactic(auto, unfolding(crate::specs::Left::is_zeroed))]
 fn is_zeroed(number: u32) -> bool
     ensures { result ≡ is_zeroed number }
 {
-    if number == 0 {
-        return true;
-    }
-    number > LAST_UNTOUCHED
+    number == 0 || number > LAST_UNTOUCHED
 }
 
 // Leaves the work as a call with this refusal number does.
+#[tactic(auto, unfolding(crate::specs::Left::left))]
 pub fn leave(work: &mut [u32], number: u32)
     requires { work_numbers ≤ length work.old }
     ensures { work.new ≡ left zeroed number work.old }
 {
     if is_zeroed(number) {
-        zero(work);
+        work[..WORK_NUMBERS].fill(0);
     }
 }
 
-// The same for the work as bytes.
+// The same for the work as bytes. One function for both is not proved: `fill` asks that a clone cannot fail, and `T: Copy` does not say so.
+#[tactic(auto, unfolding(crate::specs::Left::left))]
 pub fn leave_bytes(work: &mut [u8], number: u32)
     requires { work_bytes ≤ length work.old }
     ensures { work.new ≡ left zeroed_bytes number work.old }
 {
     if is_zeroed(number) {
-        zero_bytes(work);
+        work[..WORK_BYTES].fill(0);
     }
 }
 

@@ -1,17 +1,16 @@
--- What the invariants do not show of `closing` by themselves.
-use native.Mathlib.Omega.{arith}
+-- What the invariant does not show of `closing` by itself.
 use Rattle.lists.proofs.MemberLaws.{place_member}
 use Rattle.closed_marks.proofs.ClosingLaws.{closing_begun, closing_more, closing_done}
 use Rattle.closed_marks.proofs.closing.Goals as goal
 
-pub loop-i-init : goal.loop-i-init
-loop-i-init c = closing_begun _
+pub loop-item-init : goal.loop-item-init
+loop-item-init c = closing_begun _
 
 pub bounds-marks-item : goal.bounds-marks-item
-bounds-marks-item c = c.requires _ (place_member _ _ (omega (arith, c.loop-i.invariant.within)))
+bounds-marks-item c = c.requires _ (place_member _ _ c.loop-item-test.true)
 
-pub loop-i-preserved : goal.loop-i-preserved
-loop-i-preserved c = closing_more _ _ _ c.loop-i-test.true c.requires c.loop-i.invariant
+pub loop-item-preserved : goal.loop-item-preserved
+loop-item-preserved c = closing_more _ _ _ c.loop-item-test.true c.requires c.loop-item.invariant
 
 pub returns : goal.returns
-returns c = closing_done _ _ _ c.loop-i-test.false c.loop-i.invariant
+returns c = closing_done _ _ _ c.loop-item-test.false c.loop-item.invariant

@@ -1,13 +1,6 @@
--- What the invariants do not show of `copied` by themselves.
-use Rattle.greedy.proofs.CopyLaws.{copied_none, copied_more, copied_all}
-use borrow.Author.Rules.{rules}
+-- `greedy::copied` meets its contract: behind the marks the array has zeros. Assumes nothing.
+use Rattle.greedy.proofs.CopyLaws.{zeros_behind}
 use Rattle.greedy.proofs.copied.Goals as goal
 
-pub loop-i-init : goal.loop-i-init
-loop-i-init c = (search rules, search rules, copied_none _ 576)
-
-pub loop-i-preserved : goal.loop-i-preserved
-loop-i-preserved c = (search rules, search rules, copied_more _ _ _ (search rules) c.loop-i.invariant.2)
-
 pub returns : goal.returns
-returns c = (search rules, copied_all _ _ _ (search rules) c.loop-i.invariant.2)
+returns c = zeros_behind c.args.marks.now c.requires c.copy_from_slice.ensures.after

@@ -1,34 +1,58 @@
 -- `greedy::list_reasons` meets its contract: the marks are copied, and the copy closes the same items. Assumes nothing.
-use mathlib.Core.Path.{ap, ◌∙◌}
+use Prim.Native.Nat.{◌+◌, ◌<◌, ◌≤◌}
+use mathlib.Core.Path.{◌≡◌, ap, ◌∙◌}
 use mathlib.Core.List.{List}
 use native.Mathlib.Omega.{arith}
-use lib.ListN.{length}
-use Rattle.lists.specs.Lists.{front}
+use lib.ListN.{length, get_or, take}
+use Rattle.lists.specs.Lists.{Put}
 use Rattle.walks.specs.Flat.{graph_of}
+use Rattle.rows.specs.Net.{net_of, Proper}
+use Rattle.reason_list.specs.Reasons.{reasons}
+use Rattle.goal_table.specs.Table.{GoalsFit}
+use Rattle.lengths.proofs.PartLaws.{front_count, front_starts}
+use Rattle.row_links.proofs.LinkLaws.{linked_all}
 use Rattle.greedy.proofs.ListedLaws.{copied_fits, copied_reasons, copied_rowed}
+use Rattle.greedy.proofs.PlaceLaws.{setting_of, state_of}
 use Rattle.greedy.proofs.list_reasons.Goals as goal
 
 pub fill_list-requires : goal.fill_list-requires
 fill_list-requires c =
-    let s = c in
+    let a = c.args in
+    let i = c.net.inside in
     let k = c.copied-open in
-    let p = s.requires.proper_net_and_goals.0 in record {
-      proper_net_and_goals = (
-        record { few = p.few; marked = omega (arith, p.marked, s.requires.proper_net_and_goals.3, k.ensures.0); tails = p.tails; heads = p.heads },
-        record { eight = s.requires.proper_net_and_goals.1.eight; below = s.requires.proper_net_and_goals.1.below; distinct = s.requires.proper_net_and_goals.1.distinct },
-        s.requires.proper_net_and_goals.2,
-      );
-      listable = (s.requires.listable.0, s.requires.listable.1, s.requires.listable.2, s.requires.listable.3, s.requires.listable.4);
-      no_walk_fits = (
-        copied_fits s.args.marks.now k.result k.ensures.1 (graph_of s.args.query.nodes s.args.arcs.now) s.args.query.from s.args.query.to s.args.query.cap s.args.goals.now s.requires.no_walk_fits.0,
-        copied_rowed s.args.marks.now k.result k.ensures.1 s.args.query.nodes s.args.arcs.now s.args.query.cap s.args.query.from s.args.goals.now s.args.work.now s.requires.no_walk_fits.1,
-      );
-    }
+    let few = c.net.invariant.1 in
+    let p = c.net.invariant.0 in
+    let f = rw (← c.net.view_is) at c.requires.goals_fit in
+    let L = rw (← c.net.view_is) at c.requires.listable in
+    let u = rw (← c.net.view_is) at c.requires.no_walk_fits in
+    let G = graph_of i.nodes i.arcs.now in
+    let M = net_of i.nodes i.arcs.now k.result in
+    let p' : Proper M = record { few = p.few; marked = omega (arith, p.marked, f.1, k.ensures.0); tails = p.tails; heads = p.heads } in
+    let g' : GoalsFit M a.goals.now = record { eight = f.0.eight; below = f.0.below; distinct = f.0.distinct } in
+    let ss = c.set_starts.new.starts in
+    let l : length a.goals.now < length ss = omega (arith, c.set_starts.auto.starts, f.0.eight) in
+    let S = front_starts M a.query.from a.goals.now ss c.set_starts.ensures l in
+    let n = front_count M a.query.from a.goals.now ss c.set_starts.ensures l in (
+      setting_of p' g' S n few L.3 a.query.capped,
+      state_of p' g' S n (linked_all few c.pack.ensures) (c.note_goals.auto.work ∙ L.0) c.note_goals.ensures.noted c.note_goals.ensures.only_notes_written.0 (
+        copied_fits i.marks.now k.result k.ensures.1 G a.query.from a.query.to a.query.cap a.goals.now u.0,
+        copied_rowed i.marks.now k.result k.ensures.1 i.nodes i.arcs.now a.query.cap a.query.from a.goals.now a.work.now u.1,
+      ),
+      L.1,
+    )
 
 pub returns : goal.returns
 returns c =
-    let s = c in
+    let a = c.args in
+    let i = c.net.inside in
     let k = c.copied-open in
-    let f = c.fill_list in
-    let e = copied_reasons s.args.marks.now k.result k.ensures.1 (graph_of s.args.query.nodes s.args.arcs.now) s.args.query.from s.args.query.to s.args.query.cap s.args.goals.now in
-    (f.ensures.0 ∙ ap length e, f.ensures.1 ∙ ap (λ (xs : List _). front xs s.args.list.now) e)
+    let f = rw (← c.net.view_is) at c.requires.goals_fit in
+    let G = graph_of i.nodes i.arcs.now in
+    let M = net_of i.nodes i.arcs.now k.result in
+    let ss = c.set_starts.new.starts in
+    let l : length a.goals.now < length ss = omega (arith, c.set_starts.auto.starts, f.0.eight) in
+    let S = front_starts M a.query.from a.goals.now ss c.set_starts.ensures l in
+    let w : Put (reasons G (get_or (take (length a.goals.now + 1) ss) 0 0) a.query.to a.query.cap a.goals.now k.result) a.list.now c.fill_list.new.list c.fill_list.result =
+    c.fill_list.ensures in
+    rw (← c.net.view_is)
+    (rw (S.source, copied_reasons i.marks.now k.result k.ensures.1 G a.query.from a.query.to a.query.cap a.goals.now) at w)

@@ -18,7 +18,7 @@ returns-then-fits_limit c =
       goals_noted_if_open = λ q. absurd (false≢true q);
       rows_back_if_not = λ _. record {
         back = λ i h o v k. b.rows.back i h o v k ∙ behind 3072 mid work f.ensures.kept_rows_unchanged (3072 + i * 64 + v) (omega arith);
-        same = λ i h o v k. b.rows.same i h o v k ∙ same_front 576 work mid f.ensures.goals_noted.front (i * 64 + v) (omega (arith, s.requires.work_and_query_fit.3));
+        same = λ i h o v k. b.rows.same i h o v k ∙ same_front 576 work mid f.ensures.goals_noted.front (i * 64 + v) (omega (arith, s.requires.0.eight));
       };
     }
 

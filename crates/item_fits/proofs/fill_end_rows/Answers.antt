@@ -5,20 +5,23 @@ use lib.Seq.{length-take-le}
 use Rattle.item_fits.proofs.RowsLaws.{second_long, rows_ready}
 use Rattle.item_fits.proofs.fill_end_rows.Goals as goal
 
+pub invariant_of-net : goal.invariant_of-net
+invariant_of-net c = (c.requires.0.proper, omega (arith, c.requires.0.sized.0, c.requires.0.few))
+
 pub slice_bounds-row_from-end-2 : goal.slice_bounds-row_from-end-2
 slice_bounds-row_from-end-2 c = sym (length-take-le 64 c.args.rows.now (omega arith))
 
 pub row_from-requires : goal.row_from-requires
 row_from-requires c =
     let w = c.requires.0 in
-    record { proper_net = (w.proper, omega (arith, w.sized.0, w.few)); row_and_start_fit = (length-take-le 64 c.args.rows.now (omega arith), w.source, omega (arith, w.limit)) }
+    (length-take-le 64 c.args.rows.now (omega arith), w.source, omega (arith, w.limit))
 
 pub row_to-requires : goal.row_to-requires
 row_to-requires c =
     let w = c.requires.0 in
     let f = c.row_from in
     let l = f.auto.row ∙ length-take-le 64 c.args.rows.now (omega arith) in
-    record { proper_net = (w.proper, omega (arith, w.sized.0, w.few)); row_and_end_fit = (second_long f.new.row c.args.rows.now l c.requires.1, w.target, omega (arith, w.limit)) }
+    (second_long f.new.row c.args.rows.now l c.requires.1, w.target, omega (arith, w.limit))
 
 pub returns : goal.returns
 returns c =

@@ -8,10 +8,10 @@ use Rattle.goal_table.proofs.RestLaws.{Rest}
 use Rattle.goal_table.specs.Table.{Filled, FilledTo, TableOnly}
 use Rattle.lengths.proofs.fill_set.Given as goal
 
-abbrev pub invariant-loop-rest : goal.invariant-loop-rest
-invariant-loop-rest l =
-    (length l.work ≡ length l.initial.work) × TableOnly l.initial.work l.work × (k : ℕ) × Rest l.set k l.rest
-    × ((N : Net) (a : ℕ) (goals : List ℕ) → l.set < 2 ^ length goals → Filled N l.cap a goals l.set l.initial.work → FilledTo N l.cap a goals l.set k l.work)
+abbrev pub invariant-loop-i : goal.invariant-loop-i
+invariant-loop-i l =
+    (length l.work ≡ length l.initial.work) × TableOnly l.initial.work l.work × (k : ℕ) × Rest l.set.bits k l.rest.bits
+    × ((N : Net) (a : ℕ) (goals : List ℕ) → l.set.bits < 2 ^ length goals → Filled N l.cap a goals l.set.bits l.initial.work → FilledTo N l.cap a goals l.set.bits k l.work)
 
-abbrev pub decreases-loop-rest : goal.decreases-loop-rest
-decreases-loop-rest l = l.rest
+abbrev pub decreases-loop-i : goal.decreases-loop-i
+decreases-loop-i l = l.rest.bits

@@ -1,26 +1,6 @@
--- What the invariants do not show of `put_indices` by themselves.
-use native.Mathlib.Omega.{arith}
-use Rattle.lists.proofs.RowLaws.{begun, row_within, row_room, row_end, row_more, row_done}
-use Rattle.varint.proofs.WriteLaws.{numbers_rows, small_at}
+-- What the invariant and the laws of rows do not show of `put_indices` by themselves.
+use Rattle.lists.proofs.RowLaws.{row_more}
 use Rattle.numbers.proofs.put_indices.Goals as goal
 
-pub loop-j-init : goal.loop-j-init
-loop-j-init c = begun _ _ numbers_rows c.requires.1
-
-pub slice_bounds-put_number-count : goal.slice_bounds-put_number-count
-slice_bounds-put_number-count c = row_within c.loop-j.invariant
-
-pub overflow_cast-indices : goal.overflow_cast-indices
-overflow_cast-indices c = omega (arith, small_at c.args.indices.now c.loop-j.j c.requires.0 c.loop-j-test.true)
-
-pub put_number-at-requires : goal.put_number-at-requires
-put_number-at-requires c = (small_at c.args.indices.now c.loop-j.j c.requires.0 c.loop-j-test.true, row_room c.loop-j.invariant c.loop-j-test.true)
-
-pub overflow_add-at : goal.overflow_add-at
-overflow_add-at c = omega (arith, row_end c.loop-j.invariant c.loop-j-test.true c.put_number-at.ensures)
-
-pub loop-j-preserved : goal.loop-j-preserved
-loop-j-preserved c = row_more c.loop-j.invariant c.loop-j-test.true c.put_number-at.ensures
-
-pub returns : goal.returns
-returns c = row_done c.loop-j.invariant c.loop-j-test.false
+pub loop-index-preserved : goal.loop-index-preserved
+loop-index-preserved c = row_more c.loop-index.invariant c.loop-index-test.true c.put_number-at.ensures

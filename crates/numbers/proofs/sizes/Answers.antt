@@ -1,20 +1,13 @@
--- What the invariants do not show of `sizes` by themselves.
+-- What the invariant does not show of `sizes` by itself.
 use native.Mathlib.Omega.{arith}
-use Rattle.varint.proofs.SizeLaws.{begun, more, within, done}
-use Rattle.varint.proofs.WriteLaws.{small_at}
+use Rattle.varint.proofs.SizeLaws.{more, within, done}
 use Rattle.numbers.proofs.sizes.Goals as goal
 
-pub loop-j-init : goal.loop-j-init
-loop-j-init c = begun _
-
-pub size_of-total-requires : goal.size_of-total-requires
-size_of-total-requires c = small_at _ _ c.requires c.loop-j-test.true
-
 pub overflow_add-total : goal.overflow_add-total
-overflow_add-total c = omega (arith, within c.loop-j.invariant c.loop-j-test.true c.size_of-total.ensures)
+overflow_add-total c = omega (arith, within c.loop-x.invariant c.loop-x-test.true c.size_of-total.ensures)
 
-pub loop-j-preserved : goal.loop-j-preserved
-loop-j-preserved c = more c.loop-j.invariant c.loop-j-test.true c.size_of-total.ensures
+pub loop-x-preserved : goal.loop-x-preserved
+loop-x-preserved c = more c.loop-x.invariant c.loop-x-test.true c.size_of-total.ensures
 
 pub returns : goal.returns
-returns c = done c.loop-j.invariant c.loop-j-test.false
+returns c = done c.loop-x.invariant c.loop-x-test.false

@@ -6,26 +6,29 @@ use Rattle.pass_rules.specs.Verdict.{fits_sheet, reasons_for}
 use Rattle.reason_list.proofs.NothingLaws.{reasons_none}
 use Rattle.pass.proofs.list_for_sheet.Goals as goal
 
+pub invariant_of-net : goal.invariant_of-net
+invariant_of-net c =
+    let W = c.requires.blamed.0.whole in
+    (W.proper, omega (arith, W.sized.0, W.few))
+
+pub invariant_of-query : goal.invariant_of-query
+invariant_of-query c = record { capped = omega (arith, c.requires.blamed.0.whole.limit) }
+
 pub list_reasons-requires : goal.list_reasons-requires
 unfolding fits_sheet is_forbidden
 list_reasons-requires c =
-    let Q = c.query_of-query.ensures in
     let U = c.requires.blamed.0 in
     let W = U.whole in
     let f = c.any_forbidden.ensures in
-    rw (Q.nodes, Q.from, Q.to, Q.cap)
-    (record {
-      proper_net_and_goals = (W.proper, U.fit, omega (arith, W.sized.0, W.few), omega (arith, W.sized.1, W.proper.few, W.few));
-      listable = (c.requires.blamed.1, omega (arith, c.requires.blamed.2, W.sized.0, W.proper.few, W.few), W.source, W.target, omega (arith, W.limit));
+    record {
+      goals_fit = (U.fit, omega (arith, W.sized.1, W.proper.few, W.few));
+      listable = (c.requires.blamed.1, omega (arith, c.requires.blamed.2, W.sized.0, W.proper.few, W.few), W.source, W.target);
       no_walk_fits = (U.unmet, c.requires.rows_ready_if_forbidden (sym f ∙ c.if-any_forbidden.true));
-    })
+    }
 
 pub returns-then-any_forbidden : goal.returns-then-any_forbidden
 unfolding reasons_for
-returns-then-any_forbidden c =
-    let Q = c.query_of-query.ensures in
-    let r = rw (Q.nodes, Q.from, Q.to, Q.cap) at c.list_reasons.ensures in
-    r
+returns-then-any_forbidden c = c.list_reasons.ensures
 
 pub returns : goal.returns
 unfolding reasons_for

@@ -7,14 +7,17 @@ use Rattle.pass.proofs.ready_rows.Goals as goal
 pub returns-then-first-eq-ALL_GOALS : goal.returns-then-first-eq-ALL_GOALS
 returns-then-first-eq-ALL_GOALS c q = c.requires.rows_ready_if_first_is_three c.if-first-eq-ALL_GOALS.true
 
+pub invariant_of-net : goal.invariant_of-net
+invariant_of-net c = (c.requires.sought.0.proper, c.requires.sought.0.few)
+
+pub invariant_of-query : goal.invariant_of-query
+invariant_of-query c = record { capped = omega (arith, c.requires.sought.0.limit) }
+
 pub start_rows-requires : goal.start_rows-requires
-start_rows-requires c =
-    let Q = c.query_of.ensures in
-    let W = c.requires.sought.0 in
-    rw (Q.nodes, Q.from, Q.cap) (record { proper_net_and_goals = (W.proper, W.fit, W.few); work_and_query_fit = (omega (arith, c.requires.sought.1), W.source, omega (arith, W.limit)) })
+start_rows-requires c = let W = c.requires.sought.0 in (W.fit, omega (arith, c.requires.sought.1), W.source)
 
 pub returns-then-any_forbidden : goal.returns-then-any_forbidden
-returns-then-any_forbidden c q = let Q = c.query_of.ensures in rw (Q.nodes, Q.from, Q.cap) at c.start_rows.ensures.rows_filled
+returns-then-any_forbidden c q = c.start_rows.ensures.rows_filled
 
 pub returns-else-any_forbidden : goal.returns-else-any_forbidden
 returns-else-any_forbidden c q = absurd (true≢false (sym q ∙ sym c.any_forbidden.ensures ∙ c.if-any_forbidden.false))

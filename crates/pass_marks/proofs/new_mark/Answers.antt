@@ -1,7 +1,6 @@
 -- `pass_marks::new_mark` meets its contract, case by case. Assumes nothing.
 use mathlib.Core.Path.{refl, sym, ◌∙◌}
 use mathlib.Core.Bool.{true, false}
-use borrow.Author.Tests.{eq-eqb, ne_eqb}
 use Rattle.sheet.proofs.MarkLaws.{arc_free}
 use Rattle.sheet.specs.Sheet.{mark_of, sheet_of}
 use Rattle.sheet_required.proofs.RequiredLaws.{forced_one}
@@ -16,17 +15,17 @@ pub returns-then-not-fits_item : goal.returns-then-not-fits_item
 unfolding mark_of
 returns-then-not-fits_item c = mark_pruned (sheet_of c.args.header c.args.arcs.now c.args.marks.now) c.args.item c.if-mark-ne-OPEN.false (sym c.fits_item.ensures ∙ c.if-not-fits_item.true)
 
-pub returns-then-forced-item-eq1 : goal.returns-then-forced-item-eq1
+pub returns-then-forced-item : goal.returns-then-forced-item
 unfolding mark_of
-returns-then-forced-item-eq1 c =
+returns-then-forced-item c =
     mark_open (sheet_of c.args.header c.args.arcs.now c.args.marks.now) c.args.item 1 true c.if-mark-ne-OPEN.false (sym c.fits_item.ensures ∙ c.if-not-fits_item.false)
-    (sym (forced_one (sheet_of c.args.header c.args.arcs.now c.args.marks.now) c.requires.forced_nodes c.requires.rows_of_sheet.0.whole.proper.few c.args.item c.if-item-header.true) ∙ eq-eqb _ 1 c.if-forced-item-eq1.true) refl
+    (sym (forced_one (sheet_of c.args.header c.args.arcs.now c.args.marks.now) c.requires.forced_nodes c.requires.rows_of_sheet.0.whole.proper.few c.args.item c.if-item-header.true) ∙ c.if-forced-item.true) refl
 
-pub returns-else-forced-item-eq1 : goal.returns-else-forced-item-eq1
+pub returns-else-forced-item : goal.returns-else-forced-item
 unfolding mark_of
-returns-else-forced-item-eq1 c =
+returns-else-forced-item c =
     mark_open (sheet_of c.args.header c.args.arcs.now c.args.marks.now) c.args.item 0 false c.if-mark-ne-OPEN.false (sym c.fits_item.ensures ∙ c.if-not-fits_item.false)
-    (sym (forced_one (sheet_of c.args.header c.args.arcs.now c.args.marks.now) c.requires.forced_nodes c.requires.rows_of_sheet.0.whole.proper.few c.args.item c.if-item-header.true) ∙ ne_eqb _ 1 c.if-forced-item-eq1.false) refl
+    (sym (forced_one (sheet_of c.args.header c.args.arcs.now c.args.marks.now) c.requires.forced_nodes c.requires.rows_of_sheet.0.whole.proper.few c.args.item c.if-item-header.true) ∙ c.if-forced-item.false) refl
 
 pub returns-else-item-header : goal.returns-else-item-header
 unfolding mark_of

@@ -3,7 +3,7 @@ use Rattle.planner.proofs.WriteLaws.{write_number, write_small}
 use Rattle.planner.proofs.ways_write.Goals as goal
 
 pub one_number-requires : goal.one_number-requires
-one_number-requires c = write_small _ _ _ c.write_sheet-answer.ensures
+one_number-requires c = write_small _ _ _ c.write_sheet.ensures
 
 pub returns : goal.returns
-returns c = write_number _ _ _ c.write_sheet-answer.ensures c.one_number.ensures
+returns c = let w = write_number _ _ _ c.write_sheet.ensures c.one_number.ensures in rw c.header_of.ensures at w

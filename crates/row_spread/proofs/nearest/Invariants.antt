@@ -3,8 +3,8 @@
 use Rattle.row_spread.proofs.NearestLaws.{Seen}
 use Rattle.row_spread.proofs.nearest.Given as goal
 
-abbrev pub invariant-loop-rest : goal.invariant-loop-rest
-invariant-loop-rest l = Seen l.row l.active l.best l.rest
+abbrev pub invariant-loop-node : goal.invariant-loop-node
+invariant-loop-node l = Seen l.row l.active l.best l.rest
 
-abbrev pub decreases-loop-rest : goal.decreases-loop-rest
-decreases-loop-rest l = l.rest
+abbrev pub decreases-loop-node : goal.decreases-loop-node
+decreases-loop-node l = l.rest

@@ -1,75 +1,43 @@
--- What the invariants do not show of `spread_node` by themselves.
+-- What the invariant does not show of `spread_node` by itself: the chain leads from each arc of the node to the one before it.
 use Prim.Native.Nat.{◌-◌}
-use mathlib.Core.Path.{◌≡◌, refl, ◌∙◌}
+use mathlib.Core.Path.{refl, ◌∙◌}
 use native.Mathlib.Omega.{arith}
 use Rattle.rows.proofs.RowLaws.{fits}
 use Rattle.row_spread.specs.Active.{idle}
 use Rattle.row_spread.proofs.ChainLaws.{chain_small, chain_falls}
-use Rattle.row_spread.proofs.SpreadLaws.{tries_more, added_tries, added_keeps, added_away, waits_begun, waits_more, waits_done, taken, met_first, met_next}
+use Rattle.row_spread.proofs.SpreadLaws.{tries_more, added_tries, added_keeps, added_away, waits_begun, waits_more, taken, met_first, met_next}
 use Rattle.row_spread.proofs.spread_node.Goals as goal
-use Rattle.row_spread.proofs.spread_node.Goals.{Start}
-
-pub bounds-chains-node : goal.bounds-chains-node
-bounds-chains-node c = let s = c in omega (arith, s.requires.1.long)
 
 pub loop-link-init : goal.loop-link-init
 loop-link-init c =
-    let s = (goal.at.loop-link-init c).Start in (
-      chain_small _ s.requires.1 s.args.node s.requires.3,
-      refl,
+    let r = c.requires in
+    let xs = c.args.arcs.now in (
+      chain_small _ r.1 c.args.node r.3,
       λ N a p P g. g,
-      met_first s.args.arcs.now s.requires.1 s.args.node _ s.requires.3 refl,
-      waits_begun s.args.arcs.now s.requires.1 s.requires.3,
+      met_first xs r.1 c.args.node _ r.3 refl,
+      waits_begun xs r.1 r.3,
       idle refl,
       λ s v a. refl,
     )
 
-pub overflow_cast-arc : goal.overflow_cast-arc
-overflow_cast-arc c = let s = c in omega (arith, s.requires.1.few)
-
-pub try_adding-left-requires : goal.try_adding-left-requires
-try_adding-left-requires c =
-    let s = c in
-    let l = c.loop-link in
-    (s.requires.0, l.invariant.1 ∙ s.requires.2, omega arith)
-
-pub overflow_add-link : goal.overflow_add-link
-overflow_add-link c = let s = c in omega (arith, s.requires.1.few)
-
-pub offset_bounds-chains-arc : goal.offset_bounds-chains-arc
-offset_bounds-chains-arc c = let s = c in omega (arith, s.requires.1.few)
-
-pub bounds-chains-arc : goal.bounds-chains-arc
-bounds-chains-arc c = let s = c in omega (arith, s.requires.1.few, s.requires.1.long)
-
 pub loop-link-smaller : goal.loop-link-smaller
-loop-link-smaller c =
-    let s = c in
-    let l = c.loop-link in
-    omega (arith, chain_falls _ s.requires.1 (l.link - 1) (omega arith))
+loop-link-smaller c = omega (arith, chain_falls _ c.requires.1 (c.loop-link.link - 1) (omega arith))
 
 pub loop-link-preserved : goal.loop-link-preserved
 loop-link-preserved c =
-    let s = (goal.at.loop-link-preserved c).Start in
+    let r = c.requires in
+    let xs = c.args.arcs.now in
     let l = c.loop-link in
-    let t = c.try_adding-left in
-    let f = fits s.args.arcs.now l.row (l.link - 1) s.requires.0 (l.invariant.1 ∙ s.requires.2) (omega arith) in (
-      omega (arith, chain_falls _ s.requires.1 (l.link - 1) (omega arith)),
-      t.auto.row ∙ l.invariant.1,
-      λ N a p P g. added_keeps f t.ensures N a p P (l.invariant.2 N a p P g),
-      met_next s.args.arcs.now s.requires.1 s.args.node (l.link - 1) _ f.below (l.invariant.3 (omega arith)) refl,
-      λ S. waits_more s.args.arcs.now s.requires.1 (omega arith) f (l.invariant.3 (omega arith)) t.ensures (l.invariant.4 S),
-      tries_more (λ p q. q ∙ p) l.invariant.5 (added_tries f t.ensures),
-      λ s v a. added_away f s t.ensures v a ∙ l.invariant.6 s v a,
+    let i = l.invariant in
+    let added = c.try_adding-left.ensures in
+    let f = fits xs l.row (l.link - 1) r.0 (l.auto.row ∙ r.2) (omega arith) in (
+      omega (arith, chain_falls _ r.1 (l.link - 1) (omega arith)),
+      λ N a p P g. added_keeps f added N a p P (i.1 N a p P g),
+      met_next xs r.1 c.args.node (l.link - 1) _ f.below (i.2 (omega arith)) refl,
+      λ S. waits_more xs r.1 (omega arith) f (i.2 (omega arith)) added (i.3 S),
+      tries_more (λ p q. q ∙ p) i.4 (added_tries f added),
+      λ s v a. added_away f s added v a ∙ i.5 s v a,
     )
 
-pub returns : goal.returns
-returns c =
-    let s = c in
-    let l = c.loop-link in
-    let z : l.link ≡ 0 = omega arith in
-    record {
-      good_stays_good = (l.invariant.2, l.invariant.6);
-      still_kept = λ S. waits_done z (l.invariant.4 S);
-      active_or_total_falls = taken s.args.active s.args.node s.requires.3 s.requires.4 l.invariant.5;
-    }
+pub returns-clause-active_or_total_falls : goal.returns-clause-active_or_total_falls
+returns-clause-active_or_total_falls c = taken c.args.active c.args.node c.requires.3 c.requires.4 c.loop-link.invariant.4

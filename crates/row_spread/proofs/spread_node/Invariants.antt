@@ -1,7 +1,7 @@
--- `row_spread::spread_node` meets its contract. The loop's invariant: the arcs of `u` from number `k` on are tried, and with no cut the active nodes are as before without `u`. Assumes nothing.
+-- `row_spread::spread_node` meets its contract. The loop's invariant: the node's arcs from number `link` on are tried, and with no cut the active nodes are
+-- as before without the node. Assumes nothing.
 use Prim.Native.Nat.{ℕ, ◌-◌, ◌≤◌, ◌<◌}
 use mathlib.Core.Path.{◌≡◌}
-use lib.ListN.{length}
 use Rattle.rows.specs.Net.{arc_count, tail_in}
 use Rattle.rows.specs.Rows.{Keeps, AwaySame}
 use Rattle.row_spread.specs.Active.{Still, Tries}
@@ -10,7 +10,7 @@ use Rattle.row_spread.proofs.spread_node.Given as goal
 
 abbrev pub invariant-loop-link : goal.invariant-loop-link
 invariant-loop-link l =
-    (l.link ≤ arc_count l.arcs) × (length l.row ≡ length l.initial.row) × Keeps l.cap l.arcs l.initial.row l.row × (0 < l.link → tail_in l.arcs (l.link - 1) ≡ l.node)
+    (l.link ≤ arc_count l.arcs) × Keeps l.cap l.arcs l.initial.row l.row × (0 < l.link → tail_in l.arcs (l.link - 1) ≡ l.node)
     × (Still l.cap l.arcs l.active l.initial.row → Waiting l.cap l.arcs l.left l.node l.link l.row) × Tries l.initial.row (l.left ≡ l.initial.left) l.row
     × ((s : ℕ) → AwaySame l.arcs s l.initial.row l.row)
 

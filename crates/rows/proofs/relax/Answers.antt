@@ -1,16 +1,10 @@
--- `rows::relax` meets its contract: a candidate above the cap or no shorter leaves the row, and any other cuts the entry. Assumes nothing.
-use native.Mathlib.Omega.{arith}
+-- What the check does not find of `relax`: the two cases of `Relaxed` are those of `shorter`.
+use mathlib.Core.Path.{refl}
 use Rattle.rows.specs.Rows.{same, cut}
 use Rattle.rows.proofs.relax.Goals as goal
 
-pub returns-then-here-cap : goal.returns-then-here-cap
-returns-then-here-cap c = same (λ h. omega arith)
+pub returns-in-Some : goal.returns-in-Some
+returns-in-Some c = let f = c.in-Some.ensures.found in rw f.0 (cut (rw f.0 at f.1) (rw f.0 at f.2))
 
-pub returns-then-weight-cap : goal.returns-then-weight-cap
-returns-then-weight-cap c = same (λ h. omega arith)
-
-pub returns-then-through-row : goal.returns-then-through-row
-returns-then-through-row c = cut (omega arith) (omega arith)
-
-pub returns : goal.returns
-returns c = same (λ h. omega arith)
+pub returns-in-None : goal.returns-in-None
+returns-in-None c = same (c.in-None.ensures.none refl)

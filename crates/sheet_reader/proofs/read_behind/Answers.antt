@@ -1,33 +1,37 @@
--- `read_behind` reads the lists, then the service minutes, and then judges the whole: each part decides the next step. Assumes nothing.
-use mathlib.Core.Path.{refl, ap, sym, ◌∙◌}
-use Rattle.sheet_services.specs.Services.{page_of}
-use Rattle.sheet_reader.specs.Answer.{sheet_behind, sheet_in}
+-- `read_behind` takes the lists, then the service minutes, and then judges the whole: each part decides the next step. Assumes nothing.
+use Rattle.std.proofs.Common.{rules, refl, sym, ◌∙◌}
+use borrow.Author.Tests.{eqb-true, eqb-false}
+use Rattle.sheet_services.specs.Services.{leading}
+use Rattle.sheet_reader.specs.Answer.{sheet_behind}
 use Rattle.sheet_reader.proofs.TakenLaws.{lists_refused, services_left, services_refused, count_held, bytes_left, too_many, all_taken}
 use Rattle.sheet_reader.proofs.read_behind.Goals as goal
 
-pub returns-in-Refused : goal.returns-in-Refused
-returns-in-Refused c =
-    let w = lists_refused c.args.leading c.args.header c.args.section.now (ap (sheet_in _ _) (sym c.in-Refused.is) ∙ c.read_lists.ensures.lists_told) in
-    record { rest_told = w.0; arcs_in_front = c.read_lists.ensures.arcs_in_front; marks_in_front = c.read_lists.ensures.marks_in_front; services_in_front = rw w.1 }
+pub returns-in_err-take_lists-clause-refused : goal.returns-in_err-take_lists-clause-refused
+returns-in_err-take_lists-clause-refused c = let stopped = (lists_refused (leading c.args.leads) c.args.header c.args.section.now c.in_err-take_lists.ensures.refused).0 in search rules
 
-pub returns-in-Refused-services_behind : goal.returns-in-Refused-services_behind
-returns-in-Refused-services_behind c =
-    let q = (ap (sheet_in _ _) (sym c.in-Got.is) ∙ c.read_lists.ensures.lists_told) in
-    record { rest_told = services_refused c.args.leading c.args.header c.args.section.now q (ap (page_of _ _ _) (sym c.in-Refused-services_behind.is) ∙ c.services_behind.ensures.services_told (sheet_behind c.args.header c.args.section.now) refl); arcs_in_front = c.read_lists.ensures.arcs_in_front; marks_in_front = c.read_lists.ensures.marks_in_front; services_in_front = rw (services_left c.args.leading c.args.header c.args.section.now (ap (sheet_in _ _) (sym c.in-Got.is) ∙ c.read_lists.ensures.lists_told)) c.services_behind.ensures.services_in_front }
+pub returns-in_err-take_lists-clause-services_in_front : goal.returns-in_err-take_lists-clause-services_in_front
+returns-in_err-take_lists-clause-services_in_front c = rw (lists_refused (leading c.args.leads) c.args.header c.args.section.now c.in_err-take_lists.ensures.refused).1 refl
 
-pub returns-then-last-section : goal.returns-then-last-section
-returns-then-last-section c =
-    let q = (ap (sheet_in _ _) (sym c.in-Got.is) ∙ c.read_lists.ensures.lists_told) in
-    record { rest_told = bytes_left c.args.leading c.args.header c.args.section.now q (ap (page_of _ _ _) (sym c.in-Got-services_behind.is) ∙ c.services_behind.ensures.services_told (sheet_behind c.args.header c.args.section.now) refl) _ _ refl c.if-last-section.true; arcs_in_front = c.read_lists.ensures.arcs_in_front; marks_in_front = c.read_lists.ensures.marks_in_front; services_in_front = rw (services_left c.args.leading c.args.header c.args.section.now (ap (sheet_in _ _) (sym c.in-Got.is) ∙ c.read_lists.ensures.lists_told)) c.services_behind.ensures.services_in_front }
+pub returns-in_err-take_services-clause-refused : goal.returns-in_err-take_services-clause-refused
+returns-in_err-take_services-clause-refused c = let stopped = services_refused (leading c.args.leads) c.args.header c.args.section.now c.in_ok-take_lists.ensures.got (c.in_err-take_services.ensures.refused.refused (sheet_behind c.args.header c.args.section.now) refl) in search rules
 
-pub returns-then-few_required : goal.returns-then-few_required
-returns-then-few_required c =
-    let q = (ap (sheet_in _ _) (sym c.in-Got.is) ∙ c.read_lists.ensures.lists_told) in
-    let k = count_held c.args.leading c.args.header c.args.section.now q _ _ c.read_lists.ensures.arcs_in_front c.read_lists.ensures.marks_in_front c.few_required.ensures in
-    record { rest_told = all_taken c.args.leading c.args.header c.args.section.now q (ap (page_of _ _ _) (sym c.in-Got-services_behind.is) ∙ c.services_behind.ensures.services_told (sheet_behind c.args.header c.args.section.now) refl) _ _ refl c.if-last-section.false (sym c.if-few_required.true ∙ k); arcs_in_front = c.read_lists.ensures.arcs_in_front; marks_in_front = c.read_lists.ensures.marks_in_front; services_in_front = rw (services_left c.args.leading c.args.header c.args.section.now (ap (sheet_in _ _) (sym c.in-Got.is) ∙ c.read_lists.ensures.lists_told)) c.services_behind.ensures.services_in_front }
+pub returns-in_err-take_services-clause-services_in_front : goal.returns-in_err-take_services-clause-services_in_front
+returns-in_err-take_services-clause-services_in_front c = rw (services_left (leading c.args.leads) c.args.header c.args.section.now c.in_ok-take_lists.ensures.got) c.take_services.ensures.services_in_front
 
-pub returns : goal.returns
-returns c =
-    let q = (ap (sheet_in _ _) (sym c.in-Got.is) ∙ c.read_lists.ensures.lists_told) in
-    let k = count_held c.args.leading c.args.header c.args.section.now q _ _ c.read_lists.ensures.arcs_in_front c.read_lists.ensures.marks_in_front c.few_required.ensures in
-    record { rest_told = too_many c.args.leading c.args.header c.args.section.now q (ap (page_of _ _ _) (sym c.in-Got-services_behind.is) ∙ c.services_behind.ensures.services_told (sheet_behind c.args.header c.args.section.now) refl) _ _ refl c.if-last-section.false (sym c.if-few_required.false ∙ k); arcs_in_front = c.read_lists.ensures.arcs_in_front; marks_in_front = c.read_lists.ensures.marks_in_front; services_in_front = rw (services_left c.args.leading c.args.header c.args.section.now (ap (sheet_in _ _) (sym c.in-Got.is) ∙ c.read_lists.ensures.lists_told)) c.services_behind.ensures.services_in_front }
+pub returns-then-not-is_empty-clause-refused : goal.returns-then-not-is_empty-clause-refused
+returns-then-not-is_empty-clause-refused c = bytes_left (leading c.args.leads) c.args.header c.args.section.now c.in_ok-take_lists.ensures.got (c.in_ok-take_services.ensures.got.taken (sheet_behind c.args.header c.args.section.now) refl) (eqb-false _ 0 (sym c.is_empty.ensures ∙ c.if-not-is_empty.true))
+
+pub returns-then-not-is_empty-clause-services_in_front : goal.returns-then-not-is_empty-clause-services_in_front
+returns-then-not-is_empty-clause-services_in_front c = rw (services_left (leading c.args.leads) c.args.header c.args.section.now c.in_ok-take_lists.ensures.got) c.take_services.ensures.services_in_front
+
+pub returns-then-few_required-clause-got : goal.returns-then-few_required-clause-got
+returns-then-few_required-clause-got c = all_taken (leading c.args.leads) c.args.header c.args.section.now c.in_ok-take_lists.ensures.got (c.in_ok-take_services.ensures.got.taken (sheet_behind c.args.header c.args.section.now) refl) (eqb-true _ 0 (sym c.is_empty.ensures ∙ c.if-not-is_empty.false)) (sym c.if-few_required.true ∙ count_held (leading c.args.leads) c.args.header c.args.section.now c.in_ok-take_lists.ensures.got c.args.arcs.now c.args.marks.now c.take_lists.ensures.arcs_in_front c.take_lists.ensures.marks_in_front c.few_required.ensures)
+
+pub returns-then-few_required-clause-services_in_front : goal.returns-then-few_required-clause-services_in_front
+returns-then-few_required-clause-services_in_front c = rw (services_left (leading c.args.leads) c.args.header c.args.section.now c.in_ok-take_lists.ensures.got) c.take_services.ensures.services_in_front
+
+pub returns-else-few_required-clause-refused : goal.returns-else-few_required-clause-refused
+returns-else-few_required-clause-refused c = too_many (leading c.args.leads) c.args.header c.args.section.now c.in_ok-take_lists.ensures.got (c.in_ok-take_services.ensures.got.taken (sheet_behind c.args.header c.args.section.now) refl) (eqb-true _ 0 (sym c.is_empty.ensures ∙ c.if-not-is_empty.false)) (sym c.if-few_required.false ∙ count_held (leading c.args.leads) c.args.header c.args.section.now c.in_ok-take_lists.ensures.got c.args.arcs.now c.args.marks.now c.take_lists.ensures.arcs_in_front c.take_lists.ensures.marks_in_front c.few_required.ensures)
+
+pub returns-else-few_required-clause-services_in_front : goal.returns-else-few_required-clause-services_in_front
+returns-else-few_required-clause-services_in_front c = rw (services_left (leading c.args.leads) c.args.header c.args.section.now c.in_ok-take_lists.ensures.got) c.take_services.ensures.services_in_front

@@ -1,9 +1,6 @@
--- `forced_nodes` marks the ends of the mandatory arcs, from the last arc to the first, and then source and target. The invariant: `Ending`. Assumes nothing.
+-- `forced_nodes` marks the ends of the mandatory arcs, and then source and target. The invariant: `Ending`. Assumes nothing.
 use Rattle.sheet_required.proofs.RequiredLaws.{Ending}
 use Rattle.sheet_required.proofs.forced_nodes.Given as goal
 
 abbrev pub invariant-loop-j : goal.invariant-loop-j
 invariant-loop-j l = Ending l.header l.arcs l.marks l.j l.forced
-
-abbrev pub decreases-loop-j : goal.decreases-loop-j
-decreases-loop-j l = l.j

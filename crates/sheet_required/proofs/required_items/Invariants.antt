@@ -1,5 +1,4 @@
 -- `required_items` lists the items that pass `is_required`. The invariant (`Listing`): those below i stand in front. Assumes nothing.
-use Prim.Native.Nat.{◌-◌}
 use lib.ListN.{length}
 use Rattle.sheet.specs.Sheet.{is_required, sheet_of}
 use Rattle.sheet_required.proofs.RequiredLaws.{Listing}
@@ -7,6 +6,3 @@ use Rattle.sheet_required.proofs.required_items.Given as goal
 
 abbrev pub invariant-loop-i : goal.invariant-loop-i
 invariant-loop-i l = Listing (is_required (sheet_of l.header l.arcs l.marks)) (length l.marks) l.initial.list l.list l.count l.i
-
-abbrev pub decreases-loop-i : goal.decreases-loop-i
-decreases-loop-i l = length l.marks - l.i

@@ -1,17 +1,12 @@
--- What the invariants do not show of `no_service` by themselves.
-use native.Mathlib.Omega.{arith}
-use borrow.Author.Tests.{eq-eqb, ne_eqb}
-use Rattle.lists.proofs.TestedLaws.{every_more, every_fails, every_done}
-use Rattle.sheet.specs.Page.{no_service}
+use mathlib.Core.Path.{◌∙◌}
+use lib.Dec.{eqb}
+use Rattle.std.proofs.Common.{rules, tests}
+use Rattle.std.proofs.lemmas.Iterator.{YieldsList-from_slice}
+use Rattle.std.proofs.lemmas.Iterator.Search.{all_from_yields_List}
+use Rattle.sheet_services.proofs.FormLaws.{none_all}
 use Rattle.sheet_services.proofs.no_service.Goals as goal
 
-pub returns-then-services-i-ne0 : goal.returns-then-services-i-ne0
-unfolding no_service
-returns-then-services-i-ne0 c = every_fails _ _ _ c.loop-i.invariant.1 (omega arith) (ne_eqb _ _ c.if-services-i-ne0.true)
-
-pub loop-i-preserved : goal.loop-i-preserved
-loop-i-preserved c = (omega arith, every_more _ _ _ c.loop-i.invariant.1 (omega arith) (eq-eqb _ _ c.if-services-i-ne0.false))
-
 pub returns : goal.returns
-unfolding no_service
-returns c = every_done _ _ _ c.loop-i.invariant.1 c.loop-i-test.false
+returns c =
+    all_from_yields_List (λ x. eqb x 0) _ _ c.all.result c.all.ensures.ran (YieldsList-from_slice c.args.services.now cc) (λ x b q k. search (rules, tests))
+    ∙ none_all c.args.services.now

@@ -1,28 +1,19 @@
 -- What the invariants do not show of `serve` by themselves.
-use native.Mathlib.Omega.{arith}
+use Rattle.std.proofs.Common.{rules}
 use Rattle.sheet_services.proofs.ServeLaws.{serving, serve_next, serve_done}
 use Rattle.sheet_services.proofs.serve.Goals as goal
 
 pub loop-l-init : goal.loop-l-init
 loop-l-init c = serving _ _ _ c.requires.0 c.requires.1
 
-pub weight_of-weight-requires : goal.weight_of-weight-requires
-weight_of-weight-requires c = (serve_next c.loop-l.invariant c.loop-l-test.true).fits
+pub bounds-services-arcs : goal.bounds-services-arcs
+bounds-services-arcs c = (serve_next c.loop-l.invariant c.loop-l-test.true).head
 
-pub overflow_mul-arcs : goal.overflow_mul-arcs
-overflow_mul-arcs c = omega (arith, (serve_next c.loop-l.invariant c.loop-l-test.true).fits.room)
-
-pub overflow_add-arcs : goal.overflow_add-arcs
-overflow_add-arcs c = omega (arith, (serve_next c.loop-l.invariant c.loop-l-test.true).fits.room)
-
-pub offset_bounds-arcs-l : goal.offset_bounds-arcs-l
-offset_bounds-arcs-l c = omega (arith, (serve_next c.loop-l.invariant c.loop-l-test.true).fits.room)
-
-pub bounds-arcs-l : goal.bounds-arcs-l
-bounds-arcs-l c = (serve_next c.loop-l.invariant c.loop-l-test.true).fits.room
+pub overflow_add-arcs-in-loop-l-2 : goal.overflow_add-arcs-in-loop-l-2
+overflow_add-arcs-in-loop-l-2 c = let low = (serve_next c.loop-l.invariant c.loop-l-test.true).sum in search rules
 
 pub loop-l-preserved : goal.loop-l-preserved
-loop-l-preserved c = rw c.weight_of-weight.ensures (serve_next c.loop-l.invariant c.loop-l-test.true).stored
+loop-l-preserved c = (serve_next c.loop-l.invariant c.loop-l-test.true).stored
 
 pub returns : goal.returns
 returns c = serve_done c.loop-l.invariant c.loop-l-test.false

@@ -7,18 +7,18 @@ use Rattle.lists.proofs.FrontLaws.{Room, room_before, put_none, byte_within, put
 use Rattle.lists.specs.Lists.{Put}
 use Rattle.varint.specs.Varint.{write_numbers}
 use Rattle.sheet.proofs.SizeLaws.{served_bytes}
-use Rattle.sheet.specs.Draft.{sheet_numbers}
-use Rattle.sheet.specs.Sheet.{sheet_of}
+use Rattle.sheet.specs.Draft.{draft_sheet, sheet_numbers}
+use Rattle.sheet_faults.specs.Drafted.{drafted}
 use Rattle.sheet_writer.proofs.DraftLaws.{small_services}
 use Rattle.sheet_writer.proofs.put_served.Goals as goal
 use Rattle.sheet_writer.proofs.put_served.Goals.{Start}
 
 -- the numbers of the content
 abbrev content : goal.Start → List ℕ
-content s = sheet_numbers (sheet_of s.args.header s.args.arcs.now s.args.marks.now)
+content s = sheet_numbers (draft_sheet (drafted s.args.draft.now))
 
-services-room : (s : goal.Start) → Room ((1 ∷ []) ++ write_numbers (content s)) (write_numbers s.args.services.now) s.args.sheet.now
-services-room s = record { fits = rw (served_bytes (content s) s.args.services.now) at s.requires.numbers_fit }
+services-room : (s : goal.Start) → Room ((1 ∷ []) ++ write_numbers (content s)) (write_numbers s.args.draft.now.services.now) s.args.sheet.now
+services-room s = record { fits = rw (served_bytes (content s) s.args.draft.now.services.now) at s.requires.numbers_fit }
 
 content-room : (s : goal.Start) → Room (1 ∷ []) (write_numbers (content s)) s.args.sheet.now
 content-room s = room_before (services-room s)
@@ -42,7 +42,7 @@ slice_bounds-put_content-start c =
     put_within (content-room s) (lead-put s)
 
 pub put_content-end-requires : goal.put_content-end-requires
-put_content-end-requires c = let s = (goal.at.put_content-end-requires c).Start in record { faultless_by_some_services = (_, s.requires.draft_faultless); content_fits = put_room (content-room s) (lead-put s) }
+put_content-end-requires c = let s = (goal.at.put_content-end-requires c).Start in record { draft_faultless = s.requires.draft_faultless; content_fits = put_room (content-room s) (lead-put s) }
 
 pub overflow_add-end : goal.overflow_add-end
 overflow_add-end c =
@@ -74,4 +74,4 @@ pub returns : goal.returns
 returns c =
     let s = (goal.at.returns c).Start in
     let w = put_on_lem (content-room s) (lead-put s) c.put_content-end.ensures in
-    rw (served_bytes (content s) s.args.services.now) (put_on_lem (services-room s) w c.put_numbers.ensures)
+    rw (served_bytes (content s) s.args.draft.now.services.now) (put_on_lem (services-room s) w c.put_numbers.ensures)

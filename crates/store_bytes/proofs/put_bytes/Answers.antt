@@ -9,7 +9,7 @@ pub returns-then-work-lt-WORK_BYTES : goal.returns-then-work-lt-WORK_BYTES
 returns-then-work-lt-WORK_BYTES c = (put_short c.args.store c.args.sheet.now c.args.work.now c.args.slip.now c.if-work-lt-WORK_BYTES.true, λ _. refl)
 
 pub one_number-requires : goal.one_number-requires
-one_number-requires c = (omega (arith, put_small (shelf_of c.args.store) c.args.sheet.now c.args.slip.now c.put_sheet-answer.ensures.answer), omega arith)
+one_number-requires c = (omega (arith, c.number-number.ensures, put_small (shelf_of c.args.store) c.args.sheet.now c.args.slip.now c.put_sheet-answer.ensures.answer), omega arith)
 
 pub returns : goal.returns
-returns c = let a = c.put_sheet-answer.ensures in (put_in_bytes c.args.store c.args.sheet.now c.args.work.now c.args.slip.now c.if-work-lt-WORK_BYTES.false a c.one_number.ensures c.leave_bytes.ensures, a.same)
+returns c = let a = c.put_sheet-answer.ensures in (put_in_bytes c.args.store c.args.sheet.now c.args.work.now c.args.slip.now c.if-work-lt-WORK_BYTES.false a c.number-number.ensures c.one_number.ensures c.leave_bytes.ensures, a.same)

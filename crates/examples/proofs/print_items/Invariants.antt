@@ -1,6 +1,0 @@
--- What is left to print gets shorter.
-use Rattle.std.proofs.Common.{◌-◌}
-use Rattle.examples.proofs.print_items.Given as goal
-
-abbrev pub decreases-loop-i : goal.decreases-loop-i
-decreases-loop-i g l = l.to - l.i

@@ -1,0 +1,72 @@
+ghost use Rattle.std.specs.Prelude.{◌≡◌, ◌≤◌, ℕ, List, length, drop, IfOk, IfErr, OnOk};
+ghost use Rattle.lists.specs.Lists.{front};
+ghost use Rattle.varint.specs.Varint.{Read, got, refuse, read_number, several};
+ghost use Rattle.varint.specs.Refusal.{number_of};
+ghost use Rattle.numbers.specs.Begun.{begun, over};
+
+use varint::{Bytes, Refusal};
+
+// A kind of value of which several stand one behind the other.
+pub trait Kind {
+    type Value: Copy;
+
+    ghost reads: { Self → List ℕ → Read Self.Value };
+
+    // Takes the value at the front.
+    fn take(&self, bytes: &mut Bytes) -> Result<Self::Value, Refusal>
+        ensures got { IfOk result (λ x. reads self.now bytes.old.rest.now ≡ got x bytes.new.rest.now) }
+        ensures refused { IfErr result (λ why. reads self.now bytes.old.rest.now ≡ refuse (number_of why)) };
+}
+
+// Numbers as they are.
+#[derive(Clone, Copy)]
+pub struct Plain;
+
+impl Kind for Plain {
+    type Value = u32;
+
+    ghost reads = { λ kind bs. read_number bs };
+
+    fn take(&self, bytes: &mut Bytes) -> Result<u32, Refusal> {
+        bytes.take_number()
+    }
+}
+
+// Numbers as indices.
+#[derive(Clone, Copy)]
+pub struct Indices;
+
+impl Kind for Indices {
+    type Value = usize;
+
+    ghost reads = { λ kind bs. read_number bs };
+
+    fn take(&self, bytes: &mut Bytes) -> Result<usize, Refusal> {
+        let index = Plain.take(bytes)?;
+        Ok(index as usize)
+    }
+}
+
+// Takes as many values as `out` has places and stores each, up to the first that is refused.
+pub fn read_all<K: Kind>(kind: &K, bytes: &mut Bytes, out: &mut [K::Value]) -> Result<(), Refusal>
+    ensures got { OnOk result (several (K.reads kind.now) (length out.old) bytes.old.rest.now ≡ got out.new bytes.new.rest.now) }
+    ensures refused { IfErr result (λ why. several (K.reads kind.now) (length out.old) bytes.old.rest.now ≡ refuse (number_of why)) }
+    ensures in_front { out.new ≡ over (begun (K.reads kind.now) (length out.old) bytes.old.rest.now) out.old }
+{
+    for i in 0..out.len() {
+        out[i] = kind.take(bytes)?;
+    }
+    Ok(())
+}
+
+// Passes over `count` numbers.
+#[tactic(auto, using(crate::proofs::SeveralLaws::gone))]
+pub fn skip_numbers(bytes: &mut Bytes, count: usize) -> Result<(), Refusal>
+    ensures got { OnOk result (several read_number count bytes.old.rest.now ≡ got (begun read_number count bytes.old.rest.now) bytes.new.rest.now) }
+    ensures refused { IfErr result (λ why. several read_number count bytes.old.rest.now ≡ refuse (number_of why)) }
+{
+    for i in 0..count {
+        bytes.take_number()?;
+    }
+    Ok(())
+}

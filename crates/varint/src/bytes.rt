@@ -1,0 +1,58 @@
+ghost use Rattle.std.specs.Prelude.{◌≡◌, ◌<◌, ltb, IfOk, IfErr, OnErr};
+ghost use Rattle.varint.specs.Varint.{got, refuse, read_number, number};
+ghost use Rattle.varint.specs.Refusal.{number_of};
+
+use crate::refusal::Refusal;
+
+// The bytes that are still to be read.
+#[derive(Clone, Copy)]
+pub struct Bytes<'a> {
+    pub rest: &'a [u8],
+}
+
+impl Bytes<'_> {
+    // Takes the number at the front. It is built as its bytes arrive, with no buffer: `sum` is the value of the groups so far and `scale` the weight of the
+    // next one. Once a number is taken or drawn as `Overlong`, no byte behind the one that decided it can alter that: `call_decided` and `call_overlong` say
+    // it of each answer that the contract allows, and it allows one (`allowed_one`). Inlined, so that the cursor stays in registers.
+    #[inline(always)]
+    #[tactic(auto, using(crate::proofs::TakeLaws::taken))]
+    pub fn take_number(&mut self) -> Result<u32, Refusal>
+        ensures got { IfOk result (λ x. read_number self.old.rest.now ≡ got x self.new.rest.now) }
+        ensures refused { IfErr result (λ why. read_number self.old.rest.now ≡ refuse (number_of why)) }
+        ensures kept { OnErr result (self.new.rest.now ≡ self.old.rest.now) }
+        ensures small { IfOk result (λ x. x < 268435456) }
+    {
+        let mut rest = self.rest;
+        let mut sum = 0;
+        let mut scale: u32 = 1;
+        for i in 0..4u32 {
+            let Some((&byte, tail)) = rest.split_first() else {
+                return Err(Refusal::Ends);
+            };
+            let group = byte as u32;
+            if group < 128 {
+                if group == 0 && i > 0 {
+                    return Err(Refusal::Overlong);
+                }
+                self.rest = tail;
+                return Ok(sum + scale * group);
+            }
+            sum += scale * (group - 128);
+            scale *= 128;
+            rest = tail;
+        }
+        Err(Refusal::Overlong)
+    }
+
+    // Takes the number at the front, which is to be below `end`; otherwise the refusal is `why`.
+    #[inline(always)]
+    #[tactic(auto, unfolding(crate::specs::Varint::number, crate::specs::Varint::after, crate::specs::Varint::judged))]
+    pub fn take_below(&mut self, end: u32, why: Refusal) -> Result<u32, Refusal>
+        ensures got { IfOk result (λ x. number (number_of why) (λ y. ltb y end) self.old.rest.now ≡ got x self.new.rest.now) }
+        ensures refused { IfErr result (λ e. number (number_of why) (λ y. ltb y end) self.old.rest.now ≡ refuse (number_of e)) }
+        ensures below { IfOk result (λ x. x < end) }
+    {
+        let x = self.take_number()?;
+        if x < end { Ok(x) } else { Err(why) }
+    }
+}
