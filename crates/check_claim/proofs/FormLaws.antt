@@ -43,6 +43,17 @@ module _ (S : Sheet) (items first : ℕ) (goals reasons : List ℕ) (k : item_co
       let q' : b ≡ every (λ i. ltb i (item_count S.graph)) reasons = q ∙ ap (λ (m : ℕ). every (λ i. ltb i m) reasons) (sym k) in
       rw (every_append, ← p', ← q', ← r, ← s, ← t) (sym (and_assoc a b (c && (d && e))))
 
+  -- the same tests, each asked where the ones before it hold
+  pub formed_chain : {v : Bool} → v ≡ ((((every (λ i. ltb i items) goals && every (λ i. ltb i items) reasons) && ascends goals) && ascends reasons) && goal_count first (length goals))
+      → v ≡ well_formed S (slip_from first goals reasons)
+  formed_chain {v} e =
+      let a = every (λ i. ltb i items) goals in
+      let b = every (λ i. ltb i items) reasons in
+      let c = ascends goals in
+      let d = ascends reasons in
+      let g = goal_count first (length goals) in
+      e ∙ and_assoc ((a && b) && c) d g ∙ and_assoc (a && b) c (d && g) ∙ and_assoc a b (c && (d && g)) ∙ formed_is a b c d g refl refl refl refl refl
+
 -- the parts of a slip that is well formed
 record Parts (S : Sheet) (first : ℕ) (goals reasons : List ℕ) : Type 0 where
   goals_known : every (λ i. ltb i (item_count S.graph)) goals ≡ true

@@ -1,6 +1,7 @@
 -- The operation check: its answer on every input, and what it leaves.
-use Rattle.std.specs.Prelude.{ℕ, Bool, false, not, ◌&&◌, List, ◌++◌, length, eqb, ltb, leb}
+use Rattle.std.specs.Prelude.{ℕ, Bool, false, not, ◌&&◌, List, ◌++◌, length, eqb, ltb, leb, Result, Ok, Err}
 use Rattle.lists.specs.Lists.{pick, member, every, ascends}
+use Rattle.varint.specs.declared.refusal.Refusal.{Refusal}
 use Rattle.varint.specs.Varint.{Read, got, refuse, after}
 use Rattle.walks.specs.Graph.{item_count, fits}
 use Rattle.sheet.specs.Sheet.{Sheet, is_open, is_mandatory, is_forbidden, required}
@@ -45,6 +46,11 @@ pub record CheckOutcome : Type 0 where
 unfoldable pub check_outcome : Read Bool → List ℕ → CheckOutcome
 check_outcome (got answer rest) work = record { number = 0; yes = answer; work = zeroed work }
 check_outcome (refuse e) work = record { number = e; yes = false; work = work_after e work }
+
+-- what a call's result says, no where it was refused
+abbrev pub yes_in : Result Bool Refusal → Bool
+yes_in (Ok answer) = answer
+yes_in (Err why) = false
 
 -- check, for every sheet, work and slip; 1: work under 16,384 numbers
 unfoldable pub checked : List ℕ → List ℕ → List ℕ → CheckOutcome

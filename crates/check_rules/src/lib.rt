@@ -1,2 +1,2 @@
-// What check answers: definitions and laws. The code is in the crates `check_answer`, `check_claim` and `checker`.
+// What check answers: definitions and laws. The code is in the crates `check_claim` and `checker`.
 #![tactic(auto)]

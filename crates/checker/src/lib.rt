@@ -1,18 +1,18 @@
-// The operation check (document 01, 'The operations and what they refuse'): whether the list of a slip is a reason for its goals.
+// The operation check (docs/FORMATS.md, 'The slip'): whether the list of a slip is a reason for its goals.
 #![tactic(auto)]
 
-ghost use Rattle.std.specs.Prelude.{◌≡◌, ◌||◌, [], ◌+◌, ◌≤◌, ltb, length};
-ghost use Rattle.varint.specs.Varint.{after};
+ghost use Rattle.std.specs.Prelude.{◌≡◌, ◌||◌, [], ◌+◌, ◌≤◌, ltb, length, IfOk, IfErr};
+ghost use Rattle.varint.specs.Refusal.{number_of, number_in};
+ghost use Rattle.varint.specs.Varint.{got, refuse, after};
 ghost use Rattle.sheet.specs.Slip.{read_slip};
 ghost use Rattle.sheet.specs.Sheet.{sheet_of};
 ghost use Rattle.sheet_required.specs.Whole.{Whole};
 ghost use Rattle.slip_reader.specs.Form.{slip_in};
-ghost use Rattle.check_rules.specs.Check.{judged_on, check_on, checked};
-ghost use Rattle.check_answer.specs.Answer.{check_answer_of};
+ghost use Rattle.check_rules.specs.Check.{judged_on, check_on, yes_in, checked};
 
-use check_answer::CheckAnswer;
 use sheet::Header;
 use slip_reader::SlipForm;
+use varint::Refusal;
 use walks::{ARC_NUMBERS, GOALS, ITEMS};
 
 // Judges the goals and the reasons of a slip: 18, or yes or no.
@@ -22,11 +22,12 @@ fn answer_lists(
     marks: &[u8],
     form: &SlipForm,
     scratch: &mut [u32],
-) -> CheckAnswer
+) -> Result<bool, Refusal>
     requires sheet_whole { Whole header arcs.now marks.now × (3072 ≤ length scratch.old) }
     requires lists_short { (form.now.goals.count ≤ 8) × (form.now.reasons.count ≤ header.nodes + header.arcs) }
-    ensures { let S = sheet_of header arcs.now marks.now in
-        result ≡ check_answer_of (judged_on S (slip_in form.now) []) }
+    ensures judged { let S = sheet_of header arcs.now marks.now in IfOk result (λ answer. judged_on S (slip_in form.now) [] ≡ got answer []) }
+    ensures refused { let S = sheet_of header arcs.now marks.now in
+        IfErr result (λ why. judged_on S (slip_in form.now) [] ≡ refuse (number_of why)) }
 {
     let first = form.first;
     let mut goal_list = [0usize; GOALS];
@@ -34,13 +35,13 @@ fn answer_lists(
     let goals = form.goals.read(&mut goal_list);
     let reasons = form.reasons.read(&mut reason_list);
     if !check_claim::well_formed(header, first, goals, reasons) {
-        return check_answer::refused(18);
+        return Err(Refusal::BadClaim);
     }
     if !check_claim::kinds_hold(header, arcs, marks, first, goals, reasons) {
-        return check_answer::judged(false);
+        return Ok(false);
     }
     let closed = closed_marks::closing(reasons);
-    check_answer::judged(!item_fits::fits_goals(header, arcs, &closed, goals, scratch))
+    Ok(!item_fits::fits_goals(header, arcs, &closed, goals, scratch))
 }
 
 // Whether a slip has more goals or reasons than any that is well formed.
@@ -52,62 +53,66 @@ fn too_long(header: Header, form: &SlipForm) -> bool
 }
 
 // Judges a slip against a sheet that was taken: 17, 18, or yes or no. A list that is longer than any that is well formed is not read.
+#[tactic(auto, unfolding(varint::specs::Varint::after))]
 pub fn answer_slip(
     header: Header,
     arcs: &[u32],
     marks: &[u8],
     slip: &[u8],
     scratch: &mut [u32],
-) -> CheckAnswer
+) -> Result<bool, Refusal>
     requires { Whole header arcs.now marks.now × (3072 ≤ length scratch.old) }
-    ensures { let S = sheet_of header arcs.now marks.now in
-        result ≡ check_answer_of (after (read_slip slip.now) (judged_on S)) }
+    ensures judged { let S = sheet_of header arcs.now marks.now in
+        IfOk result (λ answer. after (read_slip slip.now) (judged_on S) ≡ got answer []) }
+    ensures refused { let S = sheet_of header arcs.now marks.now in
+        IfErr result (λ why. after (read_slip slip.now) (judged_on S) ≡ refuse (number_of why)) }
 {
-    match slip_reader::judge_slip(slip) {
-        Ok(form) => {
-            if too_long(header, &form) {
-                return check_answer::refused(18);
-            }
-            answer_lists(header, arcs, marks, &form, scratch)
-        }
-        Err(why) => check_answer::refused(u32::from(why)),
+    let form = slip_reader::judge_slip(slip)?;
+    if too_long(header, &form) {
+        return Err(Refusal::BadClaim);
     }
+    answer_lists(header, arcs, marks, &form, scratch)
 }
 
 // The same with a scratch of its own, which is made no sooner than the sheet is known to be good.
-pub fn answer_taken(header: Header, arcs: &[u32], marks: &[u8], slip: &[u8]) -> CheckAnswer
+pub fn answer_taken(
+    header: Header,
+    arcs: &[u32],
+    marks: &[u8],
+    slip: &[u8],
+) -> Result<bool, Refusal>
     requires { Whole header arcs.now marks.now }
-    ensures { let S = sheet_of header arcs.now marks.now in
-        result ≡ check_answer_of (after (read_slip slip.now) (judged_on S)) }
+    ensures judged { let S = sheet_of header arcs.now marks.now in
+        IfOk result (λ answer. after (read_slip slip.now) (judged_on S) ≡ got answer []) }
+    ensures refused { let S = sheet_of header arcs.now marks.now in
+        IfErr result (λ why. after (read_slip slip.now) (judged_on S) ≡ refuse (number_of why)) }
 {
     let mut scratch = [0u32; rows::SCRATCH_NUMBERS];
     answer_slip(header, arcs, marks, slip, &mut scratch)
 }
 
 // What check answers to a sheet and a slip: 3 to 13 for the sheet, then 17 and 18 for the slip; yes or no.
-pub fn check_sheet(sheet: &[u8], slip: &[u8]) -> CheckAnswer
-    ensures { result ≡ check_answer_of (check_on sheet.now slip.now) }
+#[tactic(auto, unfolding(check_rules::specs::Check::check_on, varint::specs::Varint::after))]
+pub fn check_sheet(sheet: &[u8], slip: &[u8]) -> Result<bool, Refusal>
+    ensures judged { IfOk result (λ answer. check_on sheet.now slip.now ≡ got answer []) }
+    ensures refused { IfErr result (λ why. check_on sheet.now slip.now ≡ refuse (number_of why)) }
 {
     let mut arcs = [0u32; ARC_NUMBERS];
     let mut marks = [0u8; ITEMS];
-    let header = match sheet_reader::read(sheet, &mut arcs, &mut marks) {
-        Ok(header) => header,
-        Err(why) => return check_answer::refused(u32::from(why)),
-    };
+    let header = sheet_reader::read(sheet, &mut arcs, &mut marks)?;
     let numbers = 3 * header.arcs;
     let items = header.nodes + header.arcs;
     answer_taken(header, &arcs[..numbers], &marks[..items], slip)
 }
 
-// Check: for every sheet, work and slip what document 01 says, refused ones too.
-pub fn check(sheet: &[u8], work: &mut [u32], slip: &[u8]) -> CheckAnswer
-    ensures { record { number = result.number; yes = result.yes; work = work.new }
-        ≡ checked sheet.now work.old slip.now }
+// Check: its answer for every sheet, work and slip, refused ones too.
+pub fn check(sheet: &[u8], work: &mut [u32], slip: &[u8]) -> Result<bool, Refusal>
+    ensures { record { number = number_in result; yes = yes_in result; work = work.new } ≡ checked sheet.now work.old slip.now }
 {
     if work.len() < work::WORK_NUMBERS {
-        return check_answer::refused(1);
+        return Err(Refusal::ShortWork);
     }
     let answer = check_sheet(sheet, slip);
-    work::leave(work, answer.number);
+    work::leave(work, work::number(&answer));
     answer
 }

@@ -83,14 +83,15 @@ fn show_finished(rt: &impl Print, work: &[u32], slip: &[u8], length: usize) -> i
 }
 
 // Prints that a call was refused, and why.
-fn show_refusal(rt: &impl Print, number: u32) -> io::Result<()> {
+fn show_refusal(rt: &impl Print, why: Refusal) -> io::Result<()> {
     rt.write_all(b" refused ")?;
+    let number = u32::from(why);
     print!(rt; "{number}")
 }
 
 // Prints what a refused call left.
-fn show_refused(rt: &impl Print, work: &[u32], slip: &[u8], number: u32) -> io::Result<()> {
-    show_refusal(rt, number)?;
+fn show_refused(rt: &impl Print, work: &[u32], slip: &[u8], why: Refusal) -> io::Result<()> {
+    show_refusal(rt, why)?;
     if is_kept(slip, 0) && is_work_all(work, 0, WORK_LENT, FILLED_NUMBER) {
         rt.write_all(b"; all untouched")?;
     }
@@ -102,13 +103,11 @@ fn show_answer(
     rt: &impl Print,
     work: &[u32],
     slip: &[u8],
-    number: u32,
-    length: usize,
+    answer: Result<usize, Refusal>,
 ) -> io::Result<()> {
-    if number == 0 {
-        show_finished(rt, work, slip, length)?;
-    } else {
-        show_refused(rt, work, slip, number)?;
+    match answer {
+        Ok(length) => show_finished(rt, work, slip, length)?,
+        Err(why) => show_refused(rt, work, slip, why)?,
     }
     rt.write_all(b"\n")
 }
@@ -120,7 +119,7 @@ fn show_pass(rt: &impl Print, name: &[u8], sheet: &[u8]) -> io::Result<()> {
     let mut work = [FILLED_NUMBER; WORK_LENT];
     let mut slip = [FILLED_BYTE; SLIP_LENT];
     let answer = pass::pass(sheet, &mut work, &mut slip);
-    show_answer(rt, &work, &slip, answer.number, answer.length)
+    show_answer(rt, &work, &slip, answer)
 }
 
 // Prints a line: the name, and what reason gives for the item.
@@ -130,20 +129,20 @@ fn show_reason(rt: &impl Print, name: &[u8], sheet: &[u8], item: u32) -> io::Res
     let mut work = [FILLED_NUMBER; WORK_LENT];
     let mut slip = [FILLED_BYTE; SLIP_LENT];
     let answer = reason::reason(sheet, &mut work, &mut slip, item);
-    show_answer(rt, &work, &slip, answer.number, answer.length)
+    show_answer(rt, &work, &slip, answer)
 }
 
 // Prints what a check says: yes, no or its refusal.
-fn show_said(rt: &impl Print, number: u32, yes: bool) -> io::Result<()> {
-    if number != 0 {
-        rt.write_all(b": refused ")?;
-        print!(rt; "{number}")?;
-    } else if yes {
-        rt.write_all(b": yes")?;
-    } else {
-        rt.write_all(b": no")?;
+fn show_said(rt: &impl Print, answer: Result<bool, Refusal>) -> io::Result<()> {
+    match answer {
+        Ok(true) => rt.write_all(b": yes"),
+        Ok(false) => rt.write_all(b": no"),
+        Err(why) => {
+            rt.write_all(b": refused ")?;
+            let number = u32::from(why);
+            print!(rt; "{number}")
+        }
     }
-    Ok(())
 }
 
 // Prints what a check left.
@@ -162,7 +161,7 @@ fn show_check(rt: &impl Print, sheet: &[u8], slip: &[u8]) -> io::Result<()> {
     print_bytes(rt, slip, slip.len())?;
     let mut work = [FILLED_NUMBER; WORK_LENT];
     let answer = checker::check(sheet, &mut work, slip);
-    show_said(rt, answer.number, answer.yes)?;
+    show_said(rt, answer)?;
     show_work_left(rt, &work)
 }
 
@@ -204,8 +203,7 @@ fn show_short_slip(rt: &impl Print) -> io::Result<()> {
     let sheet =
         b"\x04\x05\x00\x03\x08\x00\x01\x04\x01\x03\x04\x00\x02\x03\x02\x03\x09\x01\x02\x01\x00\x00\x00\x00\x00\x00\x00\x00\x00";
     let answer = pass::pass(sheet, &mut work, &mut slip);
-    show_refused(rt, &work, &slip, answer.number)?;
-    rt.write_all(b"\n")
+    show_answer(rt, &work, &slip, answer)
 }
 
 // The starred lines on which the round stands.
@@ -588,7 +586,7 @@ fn show_written(rt: &impl Print, sheet: &[u8], answer: Result<usize, Refusal>) -
             }
         }
         Err(why) => {
-            show_refusal(rt, u32::from(why))?;
+            show_refusal(rt, why)?;
             if is_kept(sheet, 0) {
                 rt.write_all(b"; all untouched")?;
             }
@@ -951,7 +949,7 @@ fn show_start(rt: &impl Print, store: &Store) -> io::Result<()> {
 fn show_putting(rt: &impl Print, before: &Store, answer: &Putting) -> io::Result<()> {
     match answer.outcome {
         Ok(()) => rt.write_all(b" 0")?,
-        Err(why) => show_refusal(rt, u32::from(why))?,
+        Err(why) => show_refusal(rt, why)?,
     }
     show_held(rt, &answer.store)?;
     if is_same_store(before, &answer.store) {
@@ -990,7 +988,7 @@ fn show_ask(rt: &impl Print, store: &Store, name: &[u8], sheet: &[u8]) -> io::Re
     match store.ask(sheet) {
         Ok(Some(slot)) => show_slot(rt, &slot)?,
         Ok(None) => rt.write_all(b" none")?,
-        Err(why) => show_refusal(rt, u32::from(why))?,
+        Err(why) => show_refusal(rt, why)?,
     }
     rt.write_all(b"\n")
 }

@@ -10,7 +10,7 @@ use Rattle.pass_verdict.specs.declared.Verdict.{Verdict}
 use Rattle.varint.proofs.WriteLaws.{small_below}
 use Rattle.varint.specs.Answer.{small}
 use Rattle.sheet_required.proofs.WholeLaws.{items_are, goals_at, listed_front}
-use Rattle.pass_verdict.specs.VerdictFound.{VerdictFound}
+use Rattle.pass_verdict.specs.VerdictFound.{goals_of, number_of_verdict, VerdictFound}
 use Rattle.sheet_required.specs.Whole.{Whole}
 use Rattle.lists.proofs.AscendLaws.{ascends_distinct}
 use Rattle.lists.specs.Lists.{Put}
@@ -33,21 +33,21 @@ pub reasons_inside : {h : Header} {arcs marks : List ℕ} → Whole h arcs marks
     → length out ≡ 576 → k ≤ length out
 reasons_inside {h} {arcs} {marks} W goals d w l = omega (arith, w.0, reasons_count (sheet_of h arcs marks) goals, items_are W, W.proper.few, W.few)
 
-module _ {h : Header} {arcs marks : List ℕ} (W : Whole h arcs marks) {v : Verdict} {list scratch : List ℕ} (J : VerdictFound h arcs marks v list scratch) where
+module _ {h : Header} {arcs marks : List ℕ} (W : Whole h arcs marks) {v : Verdict} {scratch : List ℕ} (J : VerdictFound h arcs marks v scratch) where
   abbrev S : Sheet
   S = sheet_of h arcs marks
 
   -- verdict 0: the number 0 and the new marks
-  pub stands_slip : v.number ≡ 0 → 0 ∷ new_marks S ≡ pass_slip S (verdict S)
+  pub stands_slip : number_of_verdict v ≡ 0 → 0 ∷ new_marks S ≡ pass_slip S (verdict S)
   unfolding pass_slip
   stands_slip z = let e : (verdict S).number ≡ 0 = sym J.number ∙ z in rw e (sym (marks_are S W.good))
 
   -- any other: the goals and their reasons
-  module _ (n : v.number ≡ 0 → ⊥) where
+  module _ (n : number_of_verdict v ≡ 0 → ⊥) where
     refused : (verdict S).number ≡ 0 → ⊥
     refused z = n (J.number ∙ z)
 
-    pub blamed : Blamed h arcs marks (take v.count list)
+    pub blamed : Blamed h arcs marks (goals_of v)
     blamed =
         let G = verdict_goals S W.eight in
         rw J.goals
@@ -62,11 +62,11 @@ module _ {h : Header} {arcs marks : List ℕ} (W : Whole h arcs marks) {v : Verd
         })
 
     -- the slip that is written is the slip of the verdict
-    named_slip : (d : List ℕ) {out : List ℕ} {k : ℕ} → Put (reasons_for S (take v.count list)) d out k
-        → slip_from v.number (take v.count list) (take k out) ≡ slip_for S (verdict S).number (verdict S).goals
+    named_slip : (d : List ℕ) {out : List ℕ} {k : ℕ} → Put (reasons_for S (goals_of v)) d out k
+        → slip_from (number_of_verdict v) (goals_of v) (take k out) ≡ slip_for S (verdict S).number (verdict S).goals
     unfolding slip_for
     named_slip d {out} {k} w =
-        let r : take k out ≡ reasons_for S (take v.count list) = listed_front (reasons_for S (take v.count list)) out d k w in
+        let r : take k out ≡ reasons_for S (goals_of v) = listed_front (reasons_for S (goals_of v)) out d k w in
         rw (r, J.goals, J.number)
 
     blames_slip : slip_bytes (slip_for S (verdict S).number (verdict S).goals) ≡ pass_slip S (verdict S)
@@ -78,12 +78,12 @@ module _ {h : Header} {arcs marks : List ℕ} (W : Whole h arcs marks) {v : Verd
         go zero e = absurd (refused e)
         go (suc k) e = refl
 
-    pub named_bytes : (d : List ℕ) {out : List ℕ} {k : ℕ} → Put (reasons_for S (take v.count list)) d out k
-        → slip_bytes (slip_from v.number (take v.count list) (take k out)) ≡ pass_slip S (verdict S)
+    pub named_bytes : (d : List ℕ) {out : List ℕ} {k : ℕ} → Put (reasons_for S (goals_of v)) d out k
+        → slip_bytes (slip_from (number_of_verdict v) (goals_of v) (take k out)) ≡ pass_slip S (verdict S)
     named_bytes d w = ap slip_bytes (named_slip d w) ∙ blames_slip
 
-    pub slip_room : (m : ℕ) → 1200 ≤ m → (d : List ℕ) {out : List ℕ} {k : ℕ} → Put (reasons_for S (take v.count list)) d out k
-        → (small (slip_numbers (slip_from v.number (take v.count list) (take k out))) ≡ true) × (length (slip_bytes (slip_from v.number (take v.count list) (take k out))) ≤ m)
+    pub slip_room : (m : ℕ) → 1200 ≤ m → (d : List ℕ) {out : List ℕ} {k : ℕ} → Put (reasons_for S (goals_of v)) d out k
+        → (small (slip_numbers (slip_from (number_of_verdict v) (goals_of v) (take k out))) ≡ true) × (length (slip_bytes (slip_from (number_of_verdict v) (goals_of v) (take k out))) ≤ m)
     slip_room m l d w =
         let G = verdict_goals S W.eight in
         let z : 1 ≤ (verdict S).number = omega (arith, refused) in

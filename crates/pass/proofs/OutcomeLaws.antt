@@ -13,6 +13,11 @@ use Rattle.sheet.specs.Lent.{work_numbers, zeroed, work_after}
 use Rattle.work.proofs.LeftLaws.{left_finished, left_refused}
 use Rattle.work.specs.Left.{left}
 use Rattle.pass_rules.proofs.WithinLaws.{Within}
+use Rattle.pass_rules.proofs.WroteLaws.{refused_call, Finished, finished_call}
+use Rattle.varint.proofs.RefusalLaws.{no_refusal}
+use Rattle.varint.specs.Refusal.{number_of, number_in, length_in}
+use Rattle.varint.specs.declared.refusal.Refusal.{Refusal}
+use Rattle.std.specs.Prelude.{Result, Ok, Err}
 use Rattle.sheet.specs.Answer.{Answer, finished, refused, Wrote, wrote}
 use Rattle.pass_rules.specs.Pass.{Outcome, outcome, lent_enough, written}
 
@@ -26,6 +31,15 @@ pub wrote_bytes : {a : Answer} (slip : List ℕ) {bytes out : List ℕ} {n : ℕ
     → record { number = 0; length = n; out = out } ≡ wrote a slip
 unfolding wrote
 wrote_bytes slip e w = rw (e, w.0, w.1)
+
+-- what a call that answers a Result drew and left in its slip
+module _ {a : Answer} (d : List ℕ) {s : List ℕ} {r : Result ℕ Refusal}
+    (e : record { number = number_in r; length = length_in r; out = s } ≡ wrote a d) (w : Within a) where
+  pub refused_result : {why : Refusal} → r ≡ Err why → a ≡ refused (number_of why)
+  refused_result {why} q = (refused_call a d (number_of why) 0 s (rw q at e) w (omega (arith, no_refusal why))).is
+
+  pub finished_result : {n : ℕ} → r ≡ Ok n → Finished a s n
+  finished_result {n} q = finished_call a d 0 n s (rw q at e) w (omega arith)
 
 -- with the work, left by the refusal number
 abbrev worked : Wrote → List ℕ → Outcome
@@ -49,11 +63,11 @@ module _ (a : Answer) (work slip : List ℕ) where
     short_slip h = rw (le-ltb (length work) 16384 g, lt-ltb (length slip) 1200 h)
 
     -- what was written, and the work left by the refusal number
-    pub with_work : 1200 ≤ length slip → Within a → (w : Wrote) → w ≡ wrote a slip → {after : List ℕ} → after ≡ left zeroed w.number work
-        → record { number = w.number; length = w.length; work = after; slip = w.out } ≡ outcome (lent_enough work slip a) work slip
+    pub with_work : 1200 ≤ length slip → Within a → (w : Wrote) → w ≡ wrote a slip → {n : ℕ} → n ≡ w.number
+        → {after : List ℕ} → after ≡ left zeroed n work → record { number = w.number; length = w.length; work = after; slip = w.out } ≡ outcome (lent_enough work slip a) work slip
     unfolding lent_enough
-    with_work h l w e z =
-        rw (le-ltb (length work) 16384 g, le-ltb (length slip) 1200 h, z) (ap (λ (w : Wrote). worked w work) e ∙ worked_is work slip a l)
+    with_work h l w e n z =
+        rw (le-ltb (length work) 16384 g, le-ltb (length slip) 1200 h, z, n) (ap (λ (w : Wrote). worked w work) e ∙ worked_is work slip a l)
 
 -- a call that answers 0 was lent enough, finished, and its slip stands in front
 pub call_writes : (a : Answer) (work slip : List ℕ) → Within a → (outcome (lent_enough work slip a) work slip).number ≡ 0

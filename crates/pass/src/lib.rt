@@ -3,6 +3,7 @@
 
 ghost use Rattle.std.specs.Prelude.{◌≡◌, true, ◌≤◌, length};
 ghost use Rattle.lists.specs.Lists.{member, Put};
+ghost use Rattle.varint.specs.Refusal.{number_in, length_in};
 ghost use Rattle.rows.specs.Net.{net_of};
 ghost use Rattle.rows.specs.Rows.{scratch_numbers};
 ghost use Rattle.goal_table.specs.Table.{Rowed};
@@ -16,11 +17,13 @@ ghost use Rattle.pass.specs.Blamed.{Blamed};
 
 use item_fits::TWO_ROWS;
 use lengths::Query;
+use pass_verdict::Verdict;
 use rows::SCRATCH_NUMBERS;
 use rows::net::Net;
 use sheet::Header;
+use varint::Refusal;
 use walks::{ARC_NUMBERS, FORBIDDEN, GOALS, ITEMS};
-use work::{Answer, WORK_NUMBERS};
+use work::WORK_NUMBERS;
 
 // The bytes of a slip that an operation asks for.
 pub const SLIP_BYTES: usize = 1200;
@@ -32,14 +35,7 @@ const ALL_GOALS: u32 = 3;
 fn any_forbidden(marks: &[u8]) -> bool
     ensures { result ≡ member 2 marks.now }
 {
-    let mut i: usize = 0;
-    while i < marks.len() {
-        if marks[i] == FORBIDDEN {
-            return true;
-        }
-        i += 1;
-    }
-    false
+    marks.contains(&FORBIDDEN)
 }
 
 // Has the rows for the goals ready in the scratch, where a list of reasons needs them. For verdict 3 they are there already.
@@ -120,23 +116,17 @@ pub fn write_answer(
 {
     let mut rows = [0u32; TWO_ROWS];
     item_fits::fill_end_rows(header, arcs, marks, &mut rows);
-    let mut goals = [0usize; GOALS];
-    let verdict = pass_verdict::find_verdict(header, arcs, marks, &rows, &mut goals, scratch);
-    if verdict.number == 0 {
+    let mut room = [0usize; GOALS];
+    let verdict = pass_verdict::find_verdict(header, arcs, marks, &rows, &mut room, scratch);
+    if let Verdict::Stands = verdict {
         return pass_marks::write_stands(header, arcs, marks, &rows, slip);
     }
-    let count = verdict.count;
+    let first = verdict.number();
+    let goals = verdict.goals();
     let mut list = [0u32; ITEMS];
-    ready_rows(
-        header,
-        arcs,
-        marks,
-        verdict.number,
-        &goals[..count],
-        scratch,
-    );
-    let n = list_for_sheet(header, arcs, marks, &goals[..count], scratch, &mut list);
-    slip_writer::write_slip(slip, verdict.number, &goals[..count], &list[..n])
+    ready_rows(header, arcs, marks, first, goals, scratch);
+    let n = list_for_sheet(header, arcs, marks, goals, scratch, &mut list);
+    slip_writer::write_slip(slip, first, goals, &list[..n])
 }
 
 // The same with a scratch of its own, which is made no sooner than the sheet is known to be good.
@@ -149,47 +139,32 @@ fn write_taken(header: Header, arcs: &[u32], marks: &[u8], slip: &mut [u8]) -> u
     write_answer(header, arcs, marks, &mut scratch, slip)
 }
 
-// What pass answers to a sheet, for a slip that is long enough: 3 to 13, or its slip.
-pub fn pass_sheet(sheet: &[u8], slip: &mut [u8]) -> Answer
+// What pass answers to a sheet, for a slip that is long enough: 3 to 13, or the length of its slip.
+pub fn pass_sheet(sheet: &[u8], slip: &mut [u8]) -> Result<usize, Refusal>
     requires { 1200 ≤ length slip.old }
-    ensures { record { number = result.number; length = result.length; out = slip.new }
+    ensures { record { number = number_in result; length = length_in result; out = slip.new }
         ≡ wrote (pass_on sheet.now) slip.old }
 {
     let mut arcs = [0u32; ARC_NUMBERS];
     let mut marks = [0u8; ITEMS];
-    let header = match sheet_reader::read(sheet, &mut arcs, &mut marks) {
-        Ok(header) => header,
-        Err(why) => return Answer {
-            number: u32::from(why),
-            length: 0,
-        },
-    };
+    let header = sheet_reader::read(sheet, &mut arcs, &mut marks)?;
     let numbers = 3 * header.arcs;
     let items = header.nodes + header.arcs;
-    Answer {
-        number: 0,
-        length: write_taken(header, &arcs[..numbers], &marks[..items], slip),
-    }
+    Ok(write_taken(header, &arcs[..numbers], &marks[..items], slip))
 }
 
 // The pass: for every sheet, work and slip what document 01 says, refused ones too.
-pub fn pass(sheet: &[u8], work: &mut [u32], slip: &mut [u8]) -> Answer
-    ensures { record { number = result.number; length = result.length; work = work.new; slip = slip.new }
+pub fn pass(sheet: &[u8], work: &mut [u32], slip: &mut [u8]) -> Result<usize, Refusal>
+    ensures { record { number = number_in result; length = length_in result; work = work.new; slip = slip.new }
         ≡ passed sheet.now work.old slip.old }
 {
     if work.len() < WORK_NUMBERS {
-        return Answer {
-            number: 1,
-            length: 0,
-        };
+        return Err(Refusal::ShortWork);
     }
     if slip.len() < SLIP_BYTES {
-        return Answer {
-            number: 2,
-            length: 0,
-        };
+        return Err(Refusal::ShortSlip);
     }
     let answer = pass_sheet(sheet, slip);
-    work::leave(work, answer.number);
+    work::leave(work, work::number(&answer));
     answer
 }

@@ -9,7 +9,7 @@ use lib.ListN.{length, take, set}
 use lib.Seq.{take-suc, length-take-le, take_all}
 use borrow.Author.Tests.{ne_eqb}
 use Rattle.sheet.specs.declared.Header.{Header}
-use Rattle.lists.proofs.FrontLaws.{push_at, length_front}
+use Rattle.lists.proofs.FrontLaws.{push_at}
 use Rattle.lists.specs.Lists.{front, pick}
 use Rattle.sheet_required.specs.Whole.{Whole}
 use Rattle.sheet.proofs.MarkLaws.{is_open_lem}
@@ -39,9 +39,6 @@ Marking S n d out i = (i ≤ n) × (out ≡ front (take i (new_marks S)) d)
 module _ {h : Header} {arcs marks : List ℕ} (W : Whole h arcs marks) (d out : List ℕ) (i : ℕ) where
   sized : length (new_marks (sheet_of h arcs marks)) ≡ h.nodes + h.arcs
   sized = new_marks_size (sheet_of h arcs marks) ∙ items_are W
-
-  pub marking_long : Marking (sheet_of h arcs marks) (h.nodes + h.arcs) d out i → h.nodes + h.arcs ≤ length d → length out ≡ length d
-  marking_long m l = ap length m.1 ∙ length_front (take i (new_marks (sheet_of h arcs marks))) d (rw (length-take-le i (new_marks (sheet_of h arcs marks)) (omega (arith, m.0, sized))) (omega (arith, m.0)))
 
   pub marking_more : (v : ℕ) → Marking (sheet_of h arcs marks) (h.nodes + h.arcs) d out i → i < h.nodes + h.arcs → h.nodes + h.arcs ≤ length d
       → v ≡ new_mark (sheet_of h arcs marks) i → Marking (sheet_of h arcs marks) (h.nodes + h.arcs) d (set out i v) (i + 1)

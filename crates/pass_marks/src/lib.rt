@@ -1,4 +1,4 @@
-// The marks that a pass leaves (document 01, 'The pass, in its order').
+// The marks that a pass leaves where the round stands, and their slip.
 #![tactic(auto)]
 
 ghost use Rattle.std.specs.Prelude.{◌≡◌, ◌∷◌, ◌+◌, ◌≤◌, ◌<◌, length};
@@ -31,10 +31,8 @@ fn new_mark(
     if !item_fits::fits_item(header, arcs, marks, rows, item) {
         return FORBIDDEN;
     }
-    if item < header.nodes {
-        if forced[item] {
-            return MANDATORY;
-        }
+    if item < header.nodes && forced[item] {
+        return MANDATORY;
     }
     OPEN
 }
@@ -46,10 +44,8 @@ fn put_marks(header: Header, arcs: &[u32], marks: &[u8], rows: &[u32], out: &mut
 {
     let forced = sheet_required::forced_nodes(header, arcs, marks);
     let items = header.nodes + header.arcs;
-    let mut i: usize = 0;
-    while i < items {
-        out[i] = new_mark(header, arcs, marks, rows, &forced, i);
-        i += 1;
+    for item in 0..items {
+        out[item] = new_mark(header, arcs, marks, rows, &forced, item);
     }
 }
 

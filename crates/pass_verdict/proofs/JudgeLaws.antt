@@ -1,18 +1,17 @@
 -- From what the code finds to the verdict. Assumes nothing.
-use Prim.Native.Nat.{ℕ, ◌+◌, ◌≤◌, ◌<◌}
+use Prim.Native.Nat.{ℕ, suc, ◌+◌, ◌≤◌, ◌<◌}
 use mathlib.Core.Path.{◌≡◌, refl, sym, ap, ◌∙◌}
 use mathlib.Core.Bool.{Bool, true, false, not, ◌&&◌}
 use mathlib.Core.List.{List, [], ◌∷◌}
 use native.Mathlib.Omega.{arith}
-use lib.ListN.{length, get_or, take}
+use lib.ListN.{length, get_or}
 use lib.Dec.{eqb}
 use borrow.Author.Tests.{ne_eqb}
 use Rattle.sheet.specs.declared.Header.{Header}
 use Rattle.goal_table.specs.Table.{Rowed}
 use Rattle.item_fits.proofs.AskedLaws.{whole_sought}
 use Rattle.item_fits.specs.Asked.{Sought}
-use Rattle.lists.proofs.AscendLaws.{ascends_distinct, keep_none, keep_first, span_member}
-use Rattle.lists.proofs.MemberLaws.{keep_member, member_head}
+use Rattle.lists.proofs.AscendLaws.{ascends_distinct, keep_none, keep_first}
 use Rattle.sheet_required.proofs.WholeLaws.{items_are, goals_at}
 use Rattle.sheet_required.specs.Whole.{Whole}
 use Rattle.rows.specs.Net.{net_of}
@@ -21,41 +20,31 @@ use Rattle.sheet.specs.Sheet.{Sheet, is_mandatory, all_items, required, mark_of,
 use Rattle.pass_rules.specs.Verdict.{fits_sheet, unmet, verdict_from, verdict}
 use Rattle.walks.specs.Flat.{graph_of}
 use Rattle.walks.specs.Graph.{item_count}
-use Rattle.pass_verdict.specs.VerdictFound.{VerdictFound}
+use Rattle.std.specs.Prelude.{Some, None, slice_get}
+use Rattle.pass_verdict.specs.declared.Verdict.{Verdict}
+use Rattle.pass_verdict.specs.declared.Verdict.TheVariants.{Stands, NoWay, Unmet, Apart}
+use Rattle.pass_verdict.specs.VerdictFound.{goals_of, number_of_verdict, VerdictFound}
 
 module _ {h : Header} {arcs marks : List ℕ} (W : Whole h arcs marks) where
   -- the item is mandatory, and no walk meets it
   abbrev pub missed : ℕ → Bool
   missed i = is_mandatory (sheet_of h arcs marks) i && not (fits_sheet (sheet_of h arcs marks) (i ∷ []))
 
+  -- the first that is unmet, and none where none is
   pub first_is : (i : ℕ) → i < h.nodes + h.arcs → ((j : ℕ) → j < i → missed j ≡ false) → missed i ≡ true
-      → i ≡ get_or (unmet (sheet_of h arcs marks)) 0 (h.nodes + h.arcs)
+      → Some i ≡ slice_get (unmet (sheet_of h arcs marks)) 0
   unfolding unmet all_items
-  first_is i b n e = sym (keep_first missed (item_count (graph_of h.nodes arcs)) 0 i (h.nodes + h.arcs) (omega arith) (omega (arith, items_are W)) (λ j l g. n j g) e)
-
-  pub none_is : ((j : ℕ) → j < h.nodes + h.arcs → missed j ≡ false) → h.nodes + h.arcs ≡ get_or (unmet (sheet_of h arcs marks)) 0 (h.nodes + h.arcs)
-  unfolding unmet all_items
-  none_is n = rw (keep_none missed (item_count (graph_of h.nodes arcs)) 0 (λ j l g. n j (omega (arith, items_are W))))
-
-  -- an item that is found is the first that is unmet; where none is found, none is unmet
-  pub unmet_found : (i : ℕ) → i ≡ get_or (unmet (sheet_of h arcs marks)) 0 (h.nodes + h.arcs) → i < h.nodes + h.arcs
-      → (is : List ℕ) × (unmet (sheet_of h arcs marks) ≡ i ∷ is)
-  unmet_found i e b = go (unmet (sheet_of h arcs marks)) refl e
+  first_is i b n e =
+      go (unmet (sheet_of h arcs marks))
+      (keep_first missed (item_count (graph_of h.nodes arcs)) 0 i (suc i) (omega arith) (omega (arith, items_are W)) (λ j l g. n j g) e)
     where
-      go : (u : List ℕ) → unmet (sheet_of h arcs marks) ≡ u → i ≡ get_or u 0 (h.nodes + h.arcs) → (is : List ℕ) × (unmet (sheet_of h arcs marks) ≡ i ∷ is)
-      go [] q z = absurd (omega (arith, z))
-      go (x ∷ xs) q z = (xs, q ∙ ap (λ (y : ℕ). y ∷ xs) (sym z))
+      go : (u : List ℕ) → get_or u 0 (suc i) ≡ i → Some i ≡ slice_get u 0
+      go [] q = absurd (omega (arith, q))
+      go (x ∷ xs) q = ap Some (sym q)
 
-  pub unmet_empty : (i : ℕ) → i ≡ get_or (unmet (sheet_of h arcs marks)) 0 (h.nodes + h.arcs) → h.nodes + h.arcs ≤ i → unmet (sheet_of h arcs marks) ≡ []
+  pub none_is : ((j : ℕ) → j < h.nodes + h.arcs → missed j ≡ false) → None ≡ slice_get (unmet (sheet_of h arcs marks)) 0
   unfolding unmet all_items
-  unmet_empty i e b = go (unmet (sheet_of h arcs marks)) refl e
-    where
-      go : (u : List ℕ) → unmet (sheet_of h arcs marks) ≡ u → i ≡ get_or u 0 (h.nodes + h.arcs) → unmet (sheet_of h arcs marks) ≡ []
-      go [] q z = q
-      go (x ∷ xs) q z =
-          let m = keep_member missed x (all_items (graph_of h.nodes arcs)) (rw q (member_head x xs)) in
-          let s = span_member (item_count (graph_of h.nodes arcs)) 0 x m.0 in
-          absurd (omega (arith, s.1, items_are W, z))
+  none_is n = rw (keep_none missed (item_count (graph_of h.nodes arcs)) 0 (λ j l g. n j (omega (arith, items_are W)))) refl
 
   -- the required items as goals
   pub required_sought : Sought h arcs marks (required (sheet_of h arcs marks))
@@ -65,28 +54,40 @@ module _ {h : Header} {arcs marks : List ℕ} (W : Whole h arcs marks) where
     distinct = ascends_distinct (required (sheet_of h arcs marks)) (required_ascend (sheet_of h arcs marks));
   })
 
+first_same : {i j : ℕ} → Some i ≡ Some j → i ≡ j
+first_same e = cc
+
+-- an item that is found is the first that is unmet; where none is found, none is unmet
+pub unmet_found : (u : List ℕ) (i : ℕ) → Some i ≡ slice_get u 0 → (is : List ℕ) × (u ≡ i ∷ is)
+unmet_found [] i e = absurd cc
+unmet_found (x ∷ xs) i e = (xs, ap (λ (y : ℕ). y ∷ xs) (sym (first_same e)))
+
+pub unmet_empty : (u : List ℕ) → None ≡ slice_get u 0 → u ≡ []
+unmet_empty [] e = refl
+unmet_empty (x ∷ xs) e = absurd cc
+
 -- the four verdicts
-module _ (h : Header) (arcs marks list scratch : List ℕ) where
+module _ (h : Header) (arcs marks scratch : List ℕ) where
   abbrev S : Sheet
   S = sheet_of h arcs marks
 
-  pub judged_one : fits_sheet S [] ≡ false → VerdictFound h arcs marks (record { number = 1; count = 0 }) list scratch
+  pub judged_no_way : fits_sheet S [] ≡ false → VerdictFound h arcs marks NoWay scratch
   unfolding verdict verdict_from
-  judged_one e = record { number = rw e; goals = rw e; count = omega arith; rowed = λ q. absurd (omega arith) }
+  judged_no_way e = record { number = rw e; goals = rw e; few = omega arith; rowed = λ q. absurd (omega arith) }
 
-  pub judged_two : (i : ℕ) (is : List ℕ) → fits_sheet S [] ≡ true → unmet S ≡ i ∷ is → take 1 list ≡ i ∷ [] → VerdictFound h arcs marks (record { number = 2; count = 1 }) list scratch
+  pub judged_unmet : (i : ℕ) (is : List ℕ) → fits_sheet S [] ≡ true → unmet S ≡ i ∷ is → VerdictFound h arcs marks (Unmet i) scratch
   unfolding verdict verdict_from
-  judged_two i is e u t = record { number = rw (e, u); goals = rw (e, u) t; count = omega arith; rowed = λ q. absurd (omega arith) }
+  judged_unmet i is e u = record { number = rw (e, u); goals = rw (e, u); few = omega arith; rowed = λ q. absurd (omega arith) }
 
   module _ (e : fits_sheet S [] ≡ true) (u : unmet S ≡ []) where
-    pub judged_three : (n : ℕ) → fits_sheet S (required S) ≡ false → take n list ≡ required S → n ≤ 8
-        → Rowed (net_of h.nodes arcs marks) h.limit h.source (take n list) scratch → VerdictFound h arcs marks (record { number = 3; count = n }) list scratch
+    pub judged_apart : (v : Verdict) → number_of_verdict v ≡ 3 → fits_sheet S (required S) ≡ false → goals_of v ≡ required S → length (required S) ≤ 8
+        → Rowed (net_of h.nodes arcs marks) h.limit h.source (goals_of v) scratch → VerdictFound h arcs marks v scratch
     unfolding verdict verdict_from
-    judged_three n f t l r = record { number = rw (e, u, f); goals = rw (e, u, f) t; count = l; rowed = λ q. r }
+    judged_apart v n f t l r = record { number = rw (e, u, f) n; goals = rw (e, u, f) t; few = rw t l; rowed = λ q. r }
 
-    pub judged_zero : fits_sheet S (required S) ≡ true → VerdictFound h arcs marks (record { number = 0; count = 0 }) list scratch
+    pub judged_stands : fits_sheet S (required S) ≡ true → VerdictFound h arcs marks Stands scratch
     unfolding verdict verdict_from
-    judged_zero f = record { number = rw (e, u, f); goals = rw (e, u, f); count = omega arith; rowed = λ q. absurd (omega arith) }
+    judged_stands f = record { number = rw (e, u, f); goals = rw (e, u, f); few = omega arith; rowed = λ q. absurd (omega arith) }
 
 module _ (S : Sheet) where
   -- with nothing required, what any walk meets is met
@@ -98,9 +99,19 @@ module _ (S : Sheet) where
       go (r ∷ rs) q z = absurd (omega arith)
 
 -- what the mark and the walks say of one item
-pub unmet_true : (S : Sheet) (i : ℕ) (r : Bool) → mark_of S i ≡ 1 → r ≡ fits_sheet S (i ∷ []) → not r ≡ (is_mandatory S i && not (fits_sheet S (i ∷ [])))
-unmet_true S i r m e = rw (is_mandatory_lem S i m) (ap not e)
+pub missed_item : (S : Sheet) (i : ℕ) (r : Bool) → mark_of S i ≡ 1 → r ≡ fits_sheet S (i ∷ []) → r ≡ false → (is_mandatory S i && not (fits_sheet S (i ∷ []))) ≡ true
+missed_item S i r m e z = rw (is_mandatory_lem S i m) (ap not (sym e ∙ z))
 
-pub unmet_false : (S : Sheet) (i : ℕ) → (mark_of S i ≡ 1 → ⊥) → false ≡ (is_mandatory S i && not (fits_sheet S (i ∷ [])))
+pub met_item : (S : Sheet) (i : ℕ) (r : Bool) → mark_of S i ≡ 1 → r ≡ fits_sheet S (i ∷ []) → r ≡ true → (is_mandatory S i && not (fits_sheet S (i ∷ []))) ≡ false
+met_item S i r m e z = rw (is_mandatory_lem S i m) (ap not (sym e ∙ z))
+
+pub other_item : (S : Sheet) (i : ℕ) → (mark_of S i ≡ 1 → ⊥) → (is_mandatory S i && not (fits_sheet S (i ∷ []))) ≡ false
 unfolding is_mandatory
-unmet_false S i m = let z : eqb (mark_of S i) 1 ≡ false = ne_eqb (mark_of S i) 1 m in rw z
+other_item S i m = let z : eqb (mark_of S i) 1 ≡ false = ne_eqb (mark_of S i) 1 m in rw z
+
+-- only the verdict that stands has the number 0
+pub refused_number : (v : Verdict) → (v ≡ Stands → ⊥) → number_of_verdict v ≡ 0 → ⊥
+refused_number Stands n e = n refl
+refused_number NoWay n e = absurd (omega arith)
+refused_number (Unmet i) n e = absurd (omega arith)
+refused_number (Apart goals) n e = absurd (omega arith)

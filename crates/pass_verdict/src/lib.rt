@@ -1,107 +1,106 @@
-// The verdict of document 01 ('The pass, in its order').
+// The verdict on a sheet: its round stands, or what no walk within the limit meets.
 #![tactic(auto)]
 
-ghost use Rattle.std.specs.Prelude.{◌≡◌, true, not, ◌&&◌, [], ◌∷◌, ◌+◌, ◌≤◌, ◌<◌, length, get_or};
-ghost use Rattle.sheet.specs.Sheet.{is_mandatory, sheet_of};
+ghost use Rattle.std.specs.Prelude.{◌≡◌, true, [], ◌+◌, ◌≤◌, ◌<◌, length, slice_get};
+ghost use Rattle.sheet.specs.Sheet.{sheet_of};
 ghost use Rattle.pass_rules.specs.Verdict.{fits_sheet, unmet};
 ghost use Rattle.sheet_required.specs.Whole.{Whole};
 ghost use Rattle.item_fits.specs.Rows.{Rows};
-ghost use Rattle.pass_verdict.specs.VerdictFound.{VerdictFound};
+ghost use Rattle.pass_verdict.specs.VerdictFound.{goals_of, number_of_verdict, VerdictFound};
 
 use sheet::Header;
+use std::slice;
 use walks::MANDATORY;
 
-// Whether the item is mandatory and no such walk meets it.
-fn is_unmet(header: Header, arcs: &[u32], marks: &[u8], rows: &[u32], item: usize) -> bool
-    requires { Rows header arcs.now marks.now rows.now × (item < header.nodes + header.arcs) }
-    ensures { let S = sheet_of header arcs.now marks.now in result ≡ (is_mandatory S item && not (fits_sheet S (item ∷ []))) }
-{
-    if marks[item] == MANDATORY {
-        return !item_fits::fits_item(header, arcs, marks, rows, item);
-    }
-    false
+// What a pass finds of a sheet.
+#[derive(Clone, Copy, Debug, PartialEq, Eq)]
+pub enum Verdict<'a> {
+    // Some walk within the limit meets all that it has to meet.
+    Stands,
+    // No walk keeps within the limit, whatever it meets.
+    NoWay,
+    // No such walk meets this item, the lowest of the mandatory ones that none meets.
+    Unmet(usize),
+    // Some such walk meets each of the mandatory items, but none meets these, the required ones, all at once.
+    Apart(&'a [usize]),
 }
 
-// The lowest mandatory item that no such walk meets, or the count of items where there is none.
-fn first_unmet(header: Header, arcs: &[u32], marks: &[u8], rows: &[u32]) -> usize
-    requires { Rows header arcs.now marks.now rows.now }
-    ensures { result ≡ get_or (unmet (sheet_of header arcs.now marks.now)) 0 (header.nodes + header.arcs) }
-{
-    let items = header.nodes + header.arcs;
-    let mut i: usize = 0;
-    while i < items {
-        if is_unmet(header, arcs, marks, rows, i) {
-            return i;
+impl<'a> Verdict<'a> {
+    // Its number, the first of the slip.
+    pub fn number(&self) -> u32
+        ensures { result ≡ number_of_verdict self.now }
+    {
+        match self {
+            Verdict::Stands => 0,
+            Verdict::NoWay => 1,
+            Verdict::Unmet(_) => 2,
+            Verdict::Apart(_) => 3,
         }
-        i += 1;
     }
-    items
+
+    // What no walk meets.
+    pub fn goals(&self) -> &[usize]
+        ensures { result.now ≡ goals_of self.now }
+    {
+        match self {
+            Verdict::Stands => &[],
+            Verdict::NoWay => &[],
+            Verdict::Unmet(item) => slice::from_ref(item),
+            Verdict::Apart(goals) => goals,
+        }
+    }
 }
 
-// A verdict's number, and how many goals it has.
-#[derive(Clone, Copy)]
-pub struct Verdict {
-    pub number: u32,
-    pub count: usize,
+// The lowest mandatory item that no walk meets, if there is one.
+fn first_unmet(header: Header, arcs: &[u32], marks: &[u8], rows: &[u32]) -> Option<usize>
+    requires { Rows header arcs.now marks.now rows.now }
+    ensures { result ≡ slice_get (unmet (sheet_of header arcs.now marks.now)) 0 }
+{
+    for (item, &mark) in marks.iter().enumerate() {
+        if mark == MANDATORY && !item_fits::fits_item(header, arcs, marks, rows, item) {
+            return Some(item);
+        }
+    }
+    None
 }
 
-// The verdict where each mandatory item is met: 3 with the required items as goals, or 0.
-fn judge_together(
+// The verdict where each mandatory item is met: the required items stand in front of `room` where no walk meets them together.
+fn judge_together<'a>(
     header: Header,
     arcs: &[u32],
     marks: &[u8],
-    goals: &mut [usize],
+    room: &'a mut [usize],
     scratch: &mut [u32],
-) -> Verdict
-    requires whole_with_room { Whole header arcs.now marks.now × (length goals.old ≡ 8) × (3072 ≤ length scratch.old) }
+) -> Verdict<'a>
+    requires whole_with_room { Whole header arcs.now marks.now × (length room.old ≡ 8) × (3072 ≤ length scratch.old) }
     requires fits_and_each_must_met { let S = sheet_of header arcs.now marks.now in (fits_sheet S [] ≡ true) × (unmet S ≡ []) }
-    ensures { VerdictFound header arcs.now marks.now result goals.new scratch.new }
+    ensures { VerdictFound header arcs.now marks.now result scratch.new }
 {
-    let count = sheet_required::required_items(header, arcs, marks, goals);
-    if count == 0 {
-        return Verdict {
-            number: 0,
-            count: 0,
-        };
+    let count = sheet_required::required_items(header, arcs, marks, room);
+    let goals = &room[..count];
+    if count == 0 || item_fits::fits_goals(header, arcs, marks, goals, scratch) {
+        return Verdict::Stands;
     }
-    if item_fits::fits_goals(header, arcs, marks, &goals[..count], scratch) {
-        return Verdict {
-            number: 0,
-            count: 0,
-        };
-    }
-    Verdict {
-        number: 3,
-        count: count,
-    }
+    Verdict::Apart(goals)
 }
 
-// The verdict of a sheet. Its goals stand in front of `goals` then, and for verdict 3 their rows in the scratch.
-pub fn find_verdict(
+// The verdict on a sheet. Required items that no walk meets together lie in `room`, and their rows in the scratch.
+pub fn find_verdict<'a>(
     header: Header,
     arcs: &[u32],
     marks: &[u8],
     rows: &[u32],
-    goals: &mut [usize],
+    room: &'a mut [usize],
     scratch: &mut [u32],
-) -> Verdict
-    requires { Rows header arcs.now marks.now rows.now × (length goals.old ≡ 8) × (3072 ≤ length scratch.old) }
-    ensures { VerdictFound header arcs.now marks.now result goals.new scratch.new }
+) -> Verdict<'a>
+    requires { Rows header arcs.now marks.now rows.now × (length room.old ≡ 8) × (3072 ≤ length scratch.old) }
+    ensures { VerdictFound header arcs.now marks.now result scratch.new }
 {
-    let target = header.target;
-    if rows[target] > header.limit {
-        return Verdict {
-            number: 1,
-            count: 0,
-        };
+    if rows[header.target] > header.limit {
+        return Verdict::NoWay;
     }
-    let item = first_unmet(header, arcs, marks, rows);
-    if item < header.nodes + header.arcs {
-        goals[0] = item;
-        return Verdict {
-            number: 2,
-            count: 1,
-        };
+    if let Some(item) = first_unmet(header, arcs, marks, rows) {
+        return Verdict::Unmet(item);
     }
-    judge_together(header, arcs, marks, goals, scratch)
+    judge_together(header, arcs, marks, room, scratch)
 }

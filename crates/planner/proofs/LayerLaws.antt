@@ -35,12 +35,12 @@ module _ (a : Answer) (work slip : List ℕ) where
     unfolding bytes_outcome bytes_enough bytes_after
     short_slip g = rw (le-ltb (length work) 65536 h, lt-ltb (length slip) 1200 g)
 
-    pub in_bytes : 1200 ≤ length slip → Within a → (w : Wrote) → w ≡ wrote a slip → {number : ℕ} {after : List ℕ}
-        → number ≡ 65536 * w.number + w.length → after ≡ left zeroed_bytes w.number work
+    pub in_bytes : 1200 ≤ length slip → Within a → (w : Wrote) → w ≡ wrote a slip → {refusal number : ℕ} {after : List ℕ}
+        → refusal ≡ w.number → number ≡ 65536 * w.number + w.length → after ≡ left zeroed_bytes refusal work
         → record { number = number; work = after; slip = w.out } ≡ bytes_outcome (bytes_enough work slip a) work slip
     unfolding bytes_enough
-    in_bytes g l w e n z =
-        rw (n, z, le-ltb (length work) 65536 h, le-ltb (length slip) 1200 g) (ap (λ (w : Wrote). told w work) e ∙ told_is work slip a l)
+    in_bytes g l w e r n z =
+        rw (n, z, r, le-ltb (length work) 65536 h, le-ltb (length slip) 1200 g) (ap (λ (w : Wrote). told w work) e ∙ told_is work slip a l)
 
 -- the one number fits
 pub small : (a : Answer) (slip : List ℕ) → Within a → (w : Wrote) → w ≡ wrote a slip → (w.number ≤ 27) × (w.length ≤ 65535)

@@ -9,7 +9,8 @@
 ghost use Rattle.std.specs.Prelude.{◌≡◌, ◌+◌, ◌*◌, ◌≤◌};
 ghost use Rattle.varint.specs.Refusal.{number_in, length_in};
 ghost use Rattle.planner.specs.Layer.{passed_bytes, reasoned_bytes};
-ghost use Rattle.planner.specs.Check.{checked_bytes};
+ghost use Rattle.check_rules.specs.Check.{yes_in};
+ghost use Rattle.planner.specs.Check.{yes_number, checked_bytes};
 ghost use Rattle.planner.specs.Write.{written_number};
 ghost use Rattle.sheet.specs.Draft.{draft_of};
 ghost use Rattle.store.specs.Held.{shelf_of, empty_store};
@@ -21,6 +22,14 @@ use sheet_writer::Draft;
 use store::Store;
 use varint::Refusal;
 use work::WORK_BYTES;
+
+// What check answers as a length: 1 for yes.
+fn counted(answer: Result<bool, Refusal>) -> Result<usize, Refusal>
+    ensures number { number_in result ≡ number_in answer }
+    ensures length { length_in result ≡ yes_number (yes_in answer) }
+{
+    Ok(usize::from(answer?))
+}
 
 // The one number of a call that gives a length.
 fn one_number(answer: Result<usize, Refusal>) -> u32
@@ -45,8 +54,8 @@ pub fn ways_pass(sheet: &[u8], work: &mut [u8], slip: &mut [u8]) -> u32
         return work::SHORT_SLIP;
     }
     let answer = pass::pass_sheet(sheet, slip);
-    work::leave_bytes(work, answer.number);
-    work::one_number(answer.number, answer.length)
+    work::leave_bytes(work, work::number(&answer));
+    one_number(answer)
 }
 
 // Reason with the work lent as bytes: the one number of the call.
@@ -61,8 +70,8 @@ pub fn ways_reason(sheet: &[u8], work: &mut [u8], slip: &mut [u8], item: u32) ->
         return work::SHORT_SLIP;
     }
     let answer = reason::reason_sheet(sheet, slip, item);
-    work::leave_bytes(work, answer.number);
-    work::one_number(answer.number, answer.length)
+    work::leave_bytes(work, work::number(&answer));
+    one_number(answer)
 }
 
 // Check with the work lent as bytes: the one number of the call.
@@ -72,9 +81,9 @@ pub fn ways_check(sheet: &[u8], work: &mut [u8], slip: &[u8]) -> u32
     if work.len() < WORK_BYTES {
         return work::SHORT_WORK;
     }
-    let answer = checker::check_sheet(sheet, slip);
-    work::leave_bytes(work, answer.number);
-    work::one_number(answer.number, usize::from(answer.yes))
+    let answer = counted(checker::check_sheet(sheet, slip));
+    work::leave_bytes(work, work::number(&answer));
+    one_number(answer)
 }
 
 // The header of the numbers that C hands over.

@@ -20,6 +20,7 @@ pub fn read_input<R: Read>(reader: &mut R, input: &mut [u8]) -> io::Result<usize
     ensures no_more_taken { OnErr result (Begun (R.remaining reader.old) (R.remaining reader.new) input.new) }
 {
     let mut done: usize = 0;
+    // `while`, since it is the reader that says where it ends
     while done < input.len() {
         let more = reader.read(&mut input[done..])?;
         if more == 0 {

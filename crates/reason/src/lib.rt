@@ -2,15 +2,17 @@
 #![tactic(auto)]
 
 ghost use Rattle.std.specs.Prelude.{◌≡◌, [], ◌+◌, ◌≤◌, ◌<◌, length};
+ghost use Rattle.varint.specs.Refusal.{number_in, length_in};
 ghost use Rattle.sheet.specs.Answer.{answer_of, wrote};
 ghost use Rattle.rows.specs.Rows.{scratch_numbers};
 ghost use Rattle.sheet.specs.Sheet.{sheet_of};
 ghost use Rattle.sheet_required.specs.Whole.{Whole};
 ghost use Rattle.reason_rules.specs.Reason.{prunes, reason_in, reason_on, reasoned};
 
+use pass_verdict::Verdict;
 use sheet::Header;
+use varint::Refusal;
 use walks::{ARC_NUMBERS, GOALS, ITEMS, OPEN};
-use work::Answer;
 
 // The first number of a struck item's slip.
 const STRUCK: u32 = 4;
@@ -22,15 +24,13 @@ fn is_pruned(header: Header, arcs: &[u32], marks: &[u8], scratch: &mut [u32], it
 {
     let mut rows = [0u32; item_fits::TWO_ROWS];
     item_fits::fill_end_rows(header, arcs, marks, &mut rows);
-    let mut goals = [0usize; GOALS];
-    let verdict = pass_verdict::find_verdict(header, arcs, marks, &rows, &mut goals, scratch);
-    if verdict.number != 0 {
-        return false;
+    let mut room = [0usize; GOALS];
+    let verdict = pass_verdict::find_verdict(header, arcs, marks, &rows, &mut room, scratch);
+    match verdict {
+        Verdict::Stands => marks[item] == OPEN
+            && !item_fits::fits_item(header, arcs, marks, &rows, item),
+        _ => false,
     }
-    if marks[item] != OPEN {
-        return false;
-    }
-    !item_fits::fits_item(header, arcs, marks, &rows, item)
 }
 
 // The answer for an item of a taken sheet: 15, 16, or its slip over the front of `slip`.
@@ -41,58 +41,49 @@ fn explain_item(
     scratch: &mut [u32],
     slip: &mut [u8],
     item: usize,
-) -> Answer
+) -> Result<usize, Refusal>
     requires { Whole header arcs.now marks.now × (length scratch.old ≡ scratch_numbers) × (1200 ≤ length slip.old) }
     ensures { let S = sheet_of header arcs.now marks.now in
-        record { number = result.number; length = result.length; out = slip.new } ≡ wrote (answer_of (reason_in item S [])) slip.old }
+        record { number = number_in result; length = length_in result; out = slip.new } ≡ wrote (answer_of (reason_in item S [])) slip.old }
 {
     if header.nodes + header.arcs <= item {
-        return Answer {
-            number: 15,
-            length: 0,
-        };
+        return Err(Refusal::NoItem);
     }
     if !is_pruned(header, arcs, marks, scratch, item) {
-        return Answer {
-            number: 16,
-            length: 0,
-        };
+        return Err(Refusal::NotStruck);
     }
     let goals = [item; 1];
     let mut list = [0u32; ITEMS];
     pass::ready_rows(header, arcs, marks, STRUCK, &goals, scratch);
     let n = pass::list_for_sheet(header, arcs, marks, &goals, scratch, &mut list);
-    Answer {
-        number: 0,
-        length: slip_writer::write_slip(slip, STRUCK, &goals, &list[..n]),
-    }
+    Ok(slip_writer::write_slip(slip, STRUCK, &goals, &list[..n]))
 }
 
 // The same with a scratch of its own, which is made no sooner than the sheet is known to be good.
-fn explain_taken(header: Header, arcs: &[u32], marks: &[u8], slip: &mut [u8], item: usize) -> Answer
+fn explain_taken(
+    header: Header,
+    arcs: &[u32],
+    marks: &[u8],
+    slip: &mut [u8],
+    item: usize,
+) -> Result<usize, Refusal>
     requires { Whole header arcs.now marks.now × (1200 ≤ length slip.old) }
     ensures { let S = sheet_of header arcs.now marks.now in
-        record { number = result.number; length = result.length; out = slip.new } ≡ wrote (answer_of (reason_in item S [])) slip.old }
+        record { number = number_in result; length = length_in result; out = slip.new } ≡ wrote (answer_of (reason_in item S [])) slip.old }
 {
     let mut scratch = [0u32; rows::SCRATCH_NUMBERS];
     explain_item(header, arcs, marks, &mut scratch, slip, item)
 }
 
 // What reason answers to a sheet, for a slip that is long enough: 3 to 13, 15, 16, or the item's slip.
-pub fn reason_sheet(sheet: &[u8], slip: &mut [u8], item: u32) -> Answer
+pub fn reason_sheet(sheet: &[u8], slip: &mut [u8], item: u32) -> Result<usize, Refusal>
     requires { 1200 ≤ length slip.old }
-    ensures { record { number = result.number; length = result.length; out = slip.new }
+    ensures { record { number = number_in result; length = length_in result; out = slip.new }
         ≡ wrote (reason_on sheet.now item) slip.old }
 {
     let mut arcs = [0u32; ARC_NUMBERS];
     let mut marks = [0u8; ITEMS];
-    let header = match sheet_reader::read(sheet, &mut arcs, &mut marks) {
-        Ok(header) => header,
-        Err(why) => return Answer {
-            number: u32::from(why),
-            length: 0,
-        },
-    };
+    let header = sheet_reader::read(sheet, &mut arcs, &mut marks)?;
     let numbers = 3 * header.arcs;
     let items = header.nodes + header.arcs;
     explain_taken(
@@ -105,23 +96,17 @@ pub fn reason_sheet(sheet: &[u8], slip: &mut [u8], item: u32) -> Answer
 }
 
 // Reason: for every sheet, work, slip and item number what document 01 says, refused ones too.
-pub fn reason(sheet: &[u8], work: &mut [u32], slip: &mut [u8], item: u32) -> Answer
-    ensures { record { number = result.number; length = result.length; work = work.new; slip = slip.new }
+pub fn reason(sheet: &[u8], work: &mut [u32], slip: &mut [u8], item: u32) -> Result<usize, Refusal>
+    ensures { record { number = number_in result; length = length_in result; work = work.new; slip = slip.new }
         ≡ reasoned sheet.now work.old slip.old item }
 {
     if work.len() < work::WORK_NUMBERS {
-        return Answer {
-            number: 1,
-            length: 0,
-        };
+        return Err(Refusal::ShortWork);
     }
     if slip.len() < pass::SLIP_BYTES {
-        return Answer {
-            number: 2,
-            length: 0,
-        };
+        return Err(Refusal::ShortSlip);
     }
     let answer = reason_sheet(sheet, slip, item);
-    work::leave(work, answer.number);
+    work::leave(work, work::number(&answer));
     answer
 }

@@ -206,10 +206,10 @@ module _ {f : ℕ → Bool} {n : ℕ} {old out : List ℕ} {count p : ℕ} (w : 
       rw e (record { counted = sym w.size; written = w.holds })
 
 -- what `contains` finds
-pub found_one : (xs : List ℕ) → list_any (λ y. eqb y 1) xs ≡ member 1 xs
+pub contained : (mark : ℕ) (xs : List ℕ) → list_any (λ y. eqb y mark) xs ≡ member mark xs
 unfolding member
-found_one [] = refl
-found_one (x ∷ xs) = rw (found_one xs, eqb_sym x 1)
+contained mark [] = refl
+contained mark (x ∷ xs) = rw (contained mark xs, eqb_sym x mark)
 
 -- with no mark of 1 nothing is required
 pub none_required : (S : Sheet) (list : List ℕ) → member 1 S.marks ≡ false → RoomListed (required S) list list 0

@@ -7,7 +7,7 @@ use native.Mathlib.Omega.{arith}
 use lib.ListN.{length}
 use lib.Dec.{eqb, ltb, leb}
 use borrow.Author.Tests.{lt-ltb, le-ltb, ne_eqb, eq-eqb, leb-true, leb-false}
-use Rattle.lists.specs.Lists.{pick, keep, any}
+use Rattle.lists.specs.Lists.{keep, any}
 use Rattle.std.specs.Prelude.{Result, Ok, Err}
 use Rattle.varint.specs.declared.refusal.Refusal.{Refusal}
 use Rattle.varint.specs.declared.refusal.Refusal.TheVariants.{NotShelved}
@@ -21,12 +21,10 @@ use Rattle.sheet.specs.Reader.{page}
 use Rattle.sheet.specs.Sheet.{Sheet, sheet_of}
 use Rattle.sheet.specs.declared.Header.{Header}
 use Rattle.sheet_reader.specs.Loaded.{LoadedPage}
-use Rattle.sheet.specs.Slip.{Slip, read_slip, as17}
+use Rattle.sheet.specs.Slip.{Slip, read_slip}
 use Rattle.work.proofs.LeftLaws.{left_finished, left_refused}
 use Rattle.work.specs.Left.{left}
-use Rattle.check_answer.specs.declared.CheckAnswer.{CheckAnswer}
-use Rattle.check_answer.specs.Answer.{check_answer_of}
-use Rattle.check_rules.specs.Check.{well_formed, holds, judged_on}
+use Rattle.check_rules.specs.Check.{holds, judged_on}
 use Rattle.store_rules.proofs.PutLaws.{put_refusals, put_drawn, put_fits, placed_changes, put_by_check_refused, put_by_check_no, put_by_check_yes}
 use Rattle.store_rules.specs.Shelf.{Nogood, Base, Shelf, base_of, fits_base, subsumes, nogood_of}
 use Rattle.store_rules.specs.Store as rules
@@ -89,48 +87,6 @@ module _ (before : Store) (base : Base) (slot : Slot) where
           let t : slips_in left ≡ slips_in rest ++ (shown slot ∷ []) = A.slips ∙ ap (λ (ks : List Nogood). ks ++ (shown slot ∷ [])) B.slips in
           record { answer = rw (f, room_goes h, b, t); same = λ z. absurd (new_shelf h left b t z) }
 
--- what check answered to the slip, by its number and its yes
-module _ (P : Page) (slip : List ℕ) {a : CheckAnswer} (e : a ≡ check_answer_of (after (read_slip slip) (judged_on (sheet_on P)))) where
-  drawn : (r : Read Slip) (w : ℕ) → after (as17 r) (judged_on (sheet_on P)) ≡ refuse w → 1 ≤ w
-  unfolding after as17 judged_on
-  drawn (got s rest) w q = go (well_formed (sheet_on P) s) q
-    where
-      go : (t : Bool) → pick t (got (holds (sheet_on P) s) rest) (refuse 18) ≡ refuse w → 1 ≤ w
-      go true q = absurd (let z : ◌≡◌ {A = ℕ} 0 1 = cc in omega arith)
-      go false q = let z : w ≡ 18 = cc in omega arith
-  drawn (refuse x) w q = let z : w ≡ 17 = cc in omega arith
-
-  nothing_left : (b : Bool) (rest : List ℕ) → after (read_slip slip) (judged_on (sheet_on P)) ≡ got b rest → rest ≡ []
-  unfolding after judged_on
-  nothing_left b rest q = go (read_slip slip) (slip_read slip) q
-    where
-      formed : (s : Slip) (bs : List ℕ) → bs ≡ [] → (t : Bool) → pick t (got (holds (sheet_on P) s) bs) (refuse 18) ≡ got b rest → rest ≡ []
-      formed s bs z true q = let y : bs ≡ rest = cc in sym y ∙ z
-      formed s bs z false q = absurd (let y : ◌≡◌ {A = ℕ} 0 1 = cc in omega arith)
-
-      go : (r : Read Slip) → ((s : Slip) (bs : List ℕ) → r ≡ got s bs → (1 ≤ s.first) × (s.first ≤ 4) × (bs ≡ [])) → after r (judged_on (sheet_on P)) ≡ got b rest → rest ≡ []
-      go (got s bs) h q = formed s bs (h s bs refl).2 (well_formed (sheet_on P) s) q
-      go (refuse w) h q = absurd (let y : ◌≡◌ {A = ℕ} 0 1 = cc in omega arith)
-
-  check_refused : (a.number ≡ 0 → ⊥) → (K : Shelf) → after (read_slip slip) (put_slip K P) ≡ refuse a.number
-  unfolding check_answer_of
-  check_refused n K = put_by_check_refused K P slip a.number (go (after (read_slip slip) (judged_on (sheet_on P))) e)
-    where
-      go : (r : Read Bool) → a ≡ check_answer_of r → r ≡ refuse a.number
-      go (got b rest) q = absurd (n (ap (λ (x : CheckAnswer). x.number) q))
-      go (refuse w) q = ap refuse (sym (ap (λ (x : CheckAnswer). x.number) q))
-
-  said : a.number ≡ 0 → after (read_slip slip) (judged_on (sheet_on P)) ≡ got a.yes []
-  unfolding check_answer_of read_slip
-  said n = go (after (read_slip slip) (judged_on (sheet_on P))) refl e
-    where
-      go : (r : Read Bool) → after (read_slip slip) (judged_on (sheet_on P)) ≡ r → a ≡ check_answer_of r → r ≡ got a.yes []
-      go (got b rest) q z = let y : a.yes ≡ b = ap (λ (x : CheckAnswer). x.yes) z in rw (y, nothing_left b rest q)
-      go (refuse w) q z = absurd (omega (arith, drawn _ w q, n, ap (λ (x : CheckAnswer). x.number) z))
-
-  check_no : a.number ≡ 0 → a.yes ≡ false → (K : Shelf) → after (read_slip slip) (put_slip K P) ≡ refuse 20
-  check_no n y K = put_by_check_no K P slip (said n ∙ ap (λ (b : Bool). got b []) y)
-
 -- whether a slip that check says yes to is shelvable, by its first number and its counts
 abbrev slots : Slip → Bool
 slots s = leb s.first 3 && leb (length s.goals + length s.reasons) slip_items
@@ -161,47 +117,29 @@ module _ (K : Shelf) (P : Page) (s : Slip) {r : Result Slot Refusal} (h : holds 
       go false q = absurd (ok_not_err (sym e ∙ t.1 q))
 
 -- what check answered, and the slot of a slip to which it said yes, judge the slip for every shelf
-module _ (S : Sheet) (slip : List ℕ) {a : CheckAnswer} (e : a ≡ check_answer_of (after (read_slip slip) (judged_on S))) where
+module _ (S : Sheet) (slip : List ℕ) where
   -- the same answer, by what a page means
-  meant : (P : Page) → sheet_on P ≡ S → a ≡ check_answer_of (after (read_slip slip) (judged_on (sheet_on P)))
-  meant P m = e ∙ ap (λ (T : Sheet). check_answer_of (after (read_slip slip) (judged_on T))) (sym m)
+  meant : (P : Page) → sheet_on P ≡ S → {r : Read Bool} → after (read_slip slip) (judged_on S) ≡ r → after (read_slip slip) (judged_on (sheet_on P)) ≡ r
+  meant P m e = rw m e
 
-  -- its refusal is that of the slip
-  slip_draws : (r : Read Slip) (w : ℕ) → after (as17 r) (judged_on S) ≡ refuse w → (17 ≤ w) × (w ≤ 18)
-  unfolding after as17 judged_on
-  slip_draws (got s rest) w q = go (well_formed S s) q
-    where
-      go : (t : Bool) → pick t (got (holds S s) rest) (refuse 18) ≡ refuse w → (17 ≤ w) × (w ≤ 18)
-      go true q = absurd (let z : ◌≡◌ {A = ℕ} 0 1 = cc in omega arith)
-      go false q = let z : w ≡ 18 = cc in (omega arith, omega arith)
-  slip_draws (refuse x) w q = let z : w ≡ 17 = cc in (omega arith, omega arith)
-
-  pub judges_number : (a.number ≡ 0 → ⊥) → (17 ≤ a.number) × (a.number ≤ 18)
-  unfolding check_answer_of read_slip
-  judges_number n = go (after (read_slip slip) (judged_on S)) (slip_draws _) e
-    where
-      go : (r : Read Bool) → ((w : ℕ) → r ≡ refuse w → (17 ≤ w) × (w ≤ 18)) → a ≡ check_answer_of r → (17 ≤ a.number) × (a.number ≤ 18)
-      go (got b rest) t q = absurd (n (ap (λ (x : CheckAnswer). x.number) q))
-      go (refuse w) t q = let d = t w refl in let z : a.number ≡ w = ap (λ (x : CheckAnswer). x.number) q in (omega (arith, d.0, z), omega (arith, d.1, z))
-
-  pub judges_refused : (a.number ≡ 0 → ⊥) → (why : Refusal) → number_of why ≡ a.number → Judges S slip (Err why)
-  judges_refused n why q = record {
-    refused = λ w z K P m. check_refused P slip (meant P m) n K ∙ ap refuse (sym q ∙ ap number_of (err_same z));
+  pub judges_refused : (why : Refusal) → after (read_slip slip) (judged_on S) ≡ refuse (number_of why) → Judges S slip (Err why)
+  judges_refused why e = record {
+    refused = λ w z K P m. put_by_check_refused K P slip (number_of why) (meant P m e) ∙ ap refuse (ap number_of (err_same z));
     goes = λ slot z K P m. absurd (ok_not_err (sym z));
   }
 
-  pub judges_no : a.number ≡ 0 → a.yes ≡ false → Judges S slip (Err NotShelved)
-  judges_no n y = record {
-    refused = λ w z K P m. check_no P slip (meant P m) n y K ∙ ap refuse (ap number_of (err_same z));
+  pub judges_no : after (read_slip slip) (judged_on S) ≡ got false [] → Judges S slip (Err NotShelved)
+  judges_no e = record {
+    refused = λ w z K P m. put_by_check_no K P slip (meant P m e) ∙ ap refuse (ap number_of (err_same z));
     goes = λ slot z K P m. absurd (ok_not_err (sym z));
   }
 
-  pub judges_yes : {r : Result Slot Refusal} → a.number ≡ 0 → a.yes ≡ true → Slotted S.limit (read_slip slip) r → Judges S slip r
-  judges_yes {r} n y t = record { refused = λ why z K P m. (by K P m).0 why z; goes = λ slot z K P m. (by K P m).1 slot z }
+  pub judges_yes : {r : Result Slot Refusal} → after (read_slip slip) (judged_on S) ≡ got true [] → Slotted S.limit (read_slip slip) r → Judges S slip r
+  judges_yes {r} e t = record { refused = λ why z K P m. (by K P m).0 why z; goes = λ slot z K P m. (by K P m).1 slot z }
     where
       by : (K : Shelf) (P : Page) → sheet_on P ≡ S → ((why : Refusal) → r ≡ Err why → after (read_slip slip) (put_slip K P) ≡ refuse (number_of why)) × ((slot : Slot) → r ≡ Ok slot → after (read_slip slip) (put_slip K P) ≡ entered_on K (base_of P) (shown slot))
       by K P m =
-          let j = put_by_check_yes K P slip (said P slip (meant P m) n ∙ ap (λ (b : Bool). got b []) y) in
+          let j = put_by_check_yes K P slip (meant P m e) in
           let l = (slip_read slip j.slip [] j.read).1 in
           let t' : Slotted (sheet_on P).limit (read_slip slip) r = subst (λ (T : Sheet). Slotted T.limit (read_slip slip) r) (sym m) t in
           let u : Slotted (sheet_on P).limit (got j.slip []) r = rw j.read at t' in

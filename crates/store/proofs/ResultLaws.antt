@@ -1,7 +1,6 @@
 -- Results with a refusal: those that are the same have the same refusal, and a finished one is no refusal. Assumes nothing.
 use Prim.Native.Nat.{ℕ}
 use mathlib.Core.Path.{◌≡◌, ap}
-use mathlib.Core.List.{[]}
 use native.Mathlib.Omega.{arith}
 use Rattle.std.specs.Prelude.{Result, Ok, Err, IsErrAnd}
 use Rattle.varint.specs.declared.refusal.Refusal.{Refusal}

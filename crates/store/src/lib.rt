@@ -52,18 +52,6 @@ pub struct Putting {
     pub outcome: Result<(), Refusal>,
 }
 
-impl Putting {
-    // The refusal number, 0 where the call finished.
-    pub fn number(&self) -> u32
-        ensures { result ≡ number_in self.now.outcome }
-    {
-        match self.outcome {
-            Ok(()) => 0,
-            Err(why) => u32::from(why),
-        }
-    }
-}
-
 // What a sheet is read into.
 #[derive(Drop)]
 struct Room {
@@ -79,18 +67,6 @@ struct Taken<'a> {
     arcs: &'a [u32],
     marks: &'a [u8],
     services: &'a [u32],
-}
-
-// The refusal of a number that a slip draws.
-fn refusal_of(number: u32) -> Refusal
-    requires { (17 ≤ number) × (number ≤ 18) }
-    ensures { number_of result ≡ number }
-{
-    if number == 17 {
-        Refusal::BadSlip
-    } else {
-        Refusal::BadClaim
-    }
 }
 
 impl Room {
@@ -145,11 +121,8 @@ fn judge(taken: &Taken, slip: &[u8]) -> Result<Slot, Refusal>
     requires { Whole taken.now.header taken.now.arcs.now taken.now.marks.now }
     ensures { let S = sheet_of taken.now.header taken.now.arcs.now taken.now.marks.now in Judges S slip.now result }
 {
-    let answer = checker::answer_taken(taken.header, taken.arcs, taken.marks, slip);
-    if answer.number != 0 {
-        return Err(refusal_of(answer.number));
-    }
-    if !answer.yes {
+    let yes = checker::answer_taken(taken.header, taken.arcs, taken.marks, slip)?;
+    if !yes {
         return Err(Refusal::NotShelved);
     }
     slot_of(slip, taken.header.limit)
@@ -323,7 +296,7 @@ impl Store {
             };
         }
         let answer = self.put_sheet(sheet, slip);
-        work::leave(work, answer.number());
+        work::leave(work, work::number(&answer.outcome));
         answer
     }
 

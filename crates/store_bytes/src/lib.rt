@@ -25,7 +25,7 @@ pub fn put_bytes(store: Store, sheet: &[u8], work: &mut [u8], slip: &[u8]) -> (u
         return (work::SHORT_WORK, store);
     }
     let answer = store.put_sheet(sheet, slip);
-    let number = answer.number();
+    let number = work::number(&answer.outcome);
     work::leave_bytes(work, number);
     (work::one_number(number, 0), answer.store)
 }

@@ -7,20 +7,22 @@ ghost use Rattle.text_answer.specs.Text.{newly_forbidden, refused_text};
 use arrayvec::ArrayVec;
 use std::fmt;
 use text_lines::Line;
+use varint::Refusal;
 use walks::{FORBIDDEN, GOALS, ITEMS, OPEN};
 
-// A refusal, by its number.
+// A refusal, told by its number.
 #[derive(Clone, Copy, Debug, PartialEq, Eq)]
-pub struct Refused(pub u32);
+pub struct Refused(pub Refusal);
 
 impl fmt::Display for Refused {
     ghost use Rattle.std.specs.Prelude.{Some};
+    ghost use Rattle.varint.specs.Refusal.{number_of};
 
-    ghost output = { λ r. Some (refused_text r.0) };
+    ghost output = { λ r. Some (refused_text (number_of r.0)) };
 
     #[tactic(auto, unfolding(crate::specs::Text::refused_text))]
     fn fmt<W: fmt::Write>(&self, f: &mut fmt::Formatter<W>) -> fmt::Result {
-        let number = [self.0];
+        let number = [u32::from(self.0)];
         let line = Line {
             word: "refused",
             numbers: &number,
@@ -43,7 +45,7 @@ pub enum Report {
         because: ArrayVec<u32, ITEMS>,
     },
     // The sheet is refused.
-    Refuses(u32),
+    Refuses(Refusal),
 }
 
 impl fmt::Display for Report {

@@ -15,14 +15,14 @@ use cost_lines::Costs;
 use sheet::Header;
 use std::fmt;
 use text_answer::Refused;
-use varint::Bytes;
+use varint::{Bytes, Refusal};
 use walks::{ARC_NUMBERS, ITEMS};
 
 // What is told of an item number and a sheet: what the closures cost, or a refusal.
 #[derive(Debug, Drop)]
 pub enum Told {
     Costs(Costs),
-    Refuses(u32),
+    Refuses(Refusal),
 }
 
 impl fmt::Display for Told {
@@ -55,7 +55,7 @@ fn listed(header: Header, arcs: &[u32], marks: &[u8], item: usize, slip: &[u8]) 
             Told::Costs(cost_lines::weigh(header, arcs, marks, item, closures))
         }
         // never: reason wrote it
-        Err(why) => Told::Refuses(u32::from(why)),
+        Err(why) => Told::Refuses(why),
     }
 }
 
@@ -79,7 +79,7 @@ fn explained(sheet: &[u8], item: u32, slip: &[u8]) -> Told
             )
         }
         // never: reason has read it
-        Err(why) => Told::Refuses(u32::from(why)),
+        Err(why) => Told::Refuses(why),
     }
 }
 
@@ -88,12 +88,10 @@ fn answered(sheet: &[u8], item: u32) -> Told
     ensures { told_text result ≡ text_of (answer_of (cost_for item sheet.now)) }
 {
     let mut slip = [0u8; pass::SLIP_BYTES];
-    let answer = reason::reason_sheet(sheet, &mut slip, item);
-    if 0 < answer.number {
-        return Told::Refuses(answer.number);
+    match reason::reason_sheet(sheet, &mut slip, item) {
+        Ok(length) => explained(sheet, item, &slip[..length]),
+        Err(why) => Told::Refuses(why),
     }
-    let length = answer.length;
-    explained(sheet, item, &slip[..length])
 }
 
 // Reads an item number and the sheet behind it, and tells what the closures cost.
@@ -103,6 +101,6 @@ pub fn report_cost(input: &[u8]) -> Told
     let mut bytes = Bytes { rest: input };
     match bytes.take_number() {
         Ok(item) => answered(bytes.rest, item),
-        Err(fault) => Told::Refuses(u32::from(fault)),
+        Err(fault) => Told::Refuses(fault),
     }
 }

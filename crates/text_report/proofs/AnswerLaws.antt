@@ -1,5 +1,5 @@
 -- From what a call of pass leaves, with a slip of 1,200 bytes, to what it answers and how that is printed. Assumes nothing.
-use Prim.Native.Nat.{ℕ, ◌≤◌, ◌<◌}
+use Prim.Native.Nat.{ℕ, ◌≤◌}
 use mathlib.Core.Path.{◌≡◌, refl, ap, ◌∙◌}
 use mathlib.Core.Bool.{Bool, true, false}
 use mathlib.Core.List.{List, []}
@@ -12,7 +12,11 @@ use Rattle.lists.specs.Lists.{pick}
 use Rattle.sheet.specs.Lent.{work_numbers}
 use Rattle.sheet.specs.Answer.{Answer, finished, refused}
 use Rattle.pass_rules.proofs.WithinLaws.{Within, pass_within}
-use Rattle.pass_rules.proofs.WroteLaws.{Refused, refused_call, Finished, finished_call, outcome_wrote}
+use Rattle.pass_rules.proofs.WroteLaws.{Finished, outcome_wrote}
+use Rattle.pass.proofs.OutcomeLaws.{refused_result, finished_result}
+use Rattle.varint.specs.Refusal.{number_of, number_in, length_in}
+use Rattle.varint.specs.declared.refusal.Refusal.{Refusal}
+use Rattle.std.specs.Prelude.{Result, Ok, Err}
 use Rattle.pass_rules.specs.Pass.{Outcome, outcome, lent_enough, pass_on, passed}
 use Rattle.text_answer.specs.Text.{refused_text, slip_text, text, answer}
 
@@ -38,8 +42,9 @@ pub finished_text : (sheet : List ℕ) {a : Answer} {bs : List ℕ} → a ≡ fi
 unfolding text
 finished_text sheet e = rw e
 
-module _ (sheet work d : List ℕ) (long : 1200 ≤ length d) (n l : ℕ) (w s : List ℕ) (e : record { number = n; length = l; work = w; slip = s } ≡ passed sheet work d) where
-  as_answered : record { number = n; length = l; work = w; slip = s } ≡ outcome (answer sheet work) work d
+module _ (sheet work d : List ℕ) (long : 1200 ≤ length d) (r : Result ℕ Refusal) {w s : List ℕ}
+    (e : record { number = number_in r; length = length_in r; work = w; slip = s } ≡ passed sheet work d) where
+  as_answered : record { number = number_in r; length = length_in r; work = w; slip = s } ≡ outcome (answer sheet work) work d
   unfolding passed lent_enough answer
   as_answered = rw (le-ltb (length d) 1200 long) at e
 
@@ -51,8 +56,8 @@ module _ (sheet work d : List ℕ) (long : 1200 ≤ length d) (n l : ℕ) (w s :
       go (finished bs) = refl
       go (refused x) = refl
 
-  pub refuses : 0 < n → Refused (answer sheet work) n
-  refuses = refused_call (answer sheet work) d n l s (outcome_wrote (answer sheet work) work d as_answered) (answer_within sheet work)
+  pub refuses : {why : Refusal} → r ≡ Err why → answer sheet work ≡ refused (number_of why)
+  refuses = refused_result d (outcome_wrote (answer sheet work) work d as_answered) (answer_within sheet work)
 
-  pub finishes : n ≤ 0 → Finished (answer sheet work) s l
-  finishes = finished_call (answer sheet work) d n l s (outcome_wrote (answer sheet work) work d as_answered) (answer_within sheet work)
+  pub finishes : {n : ℕ} → r ≡ Ok n → Finished (answer sheet work) s n
+  finishes = finished_result d (outcome_wrote (answer sheet work) work d as_answered) (answer_within sheet work)

@@ -42,7 +42,7 @@ fn stands(sheet: &[u8], slip: &[u8]) -> Report
             }
         }
         // never: the pass has read it
-        Err(why) => Report::Refuses(u32::from(why)),
+        Err(why) => Report::Refuses(why),
     }
 }
 
@@ -58,7 +58,7 @@ fn blames(slip: &[u8]) -> Report
             because: listed(&form.reasons),
         },
         // never: the pass wrote it
-        Err(why) => Report::Refuses(u32::from(why)),
+        Err(why) => Report::Refuses(why),
     }
 }
 
@@ -79,9 +79,8 @@ pub fn report(sheet: &[u8], work: &mut [u32]) -> Report
     ensures work_as_outcome { work.new ≡ (outcome (answer_to sheet.now work.old) work.old []).work }
 {
     let mut slip = [0u8; pass::SLIP_BYTES];
-    let answer = pass::pass(sheet, work, &mut slip);
-    if 0 < answer.number {
-        return Report::Refuses(answer.number);
+    match pass::pass(sheet, work, &mut slip) {
+        Ok(length) => finishes(sheet, &slip[..length]),
+        Err(why) => Report::Refuses(why),
     }
-    finishes(sheet, &slip[..answer.length])
 }

@@ -1,4 +1,4 @@
-// The work that an operation is lent, as numbers or as bytes, what a call leaves in it, and what it answers (docs/FORMATS.md, 'What is refused').
+// The work lent to an operation, as numbers or as bytes, what a call leaves in it, and the number of its answer (docs/FORMATS.md, 'What is refused').
 
 #![tactic(auto)]
 
@@ -6,6 +6,9 @@ ghost use Rattle.std.specs.Prelude.{◌≡◌, ◌+◌, ◌*◌, ◌≤◌, leng
 ghost use Rattle.sheet.specs.Lent.{work_numbers, zeroed};
 ghost use Rattle.work.specs.Bytes.{work_bytes, zeroed_bytes};
 ghost use Rattle.work.specs.Left.{is_zeroed, left};
+ghost use Rattle.varint.specs.Refusal.{number_in};
+
+use varint::Refusal;
 
 // What an operation asks for.
 pub const WORK_NUMBERS: usize = 16384;
@@ -16,11 +19,14 @@ pub const WORK_BYTES: usize = 65536;
 // The last refusal that leaves the work as found.
 const LAST_UNTOUCHED: u32 = 13;
 
-// What every call that writes into one slice answers: the refusal number, 0 where it finished, and the length of what it wrote there.
-#[derive(Clone, Copy, Debug, PartialEq, Eq)]
-pub struct Answer {
-    pub number: u32,
-    pub length: usize,
+// The refusal number of what a call answers, 0 where it finished.
+pub fn number<T>(answer: &Result<T, Refusal>) -> u32
+    ensures { result ≡ number_in answer.now }
+{
+    match answer {
+        Ok(_) => 0,
+        Err(why) => u32::from(*why),
+    }
 }
 
 // Whether a call with this refusal number, 0 where it finished, leaves the work zero.

@@ -1,15 +1,14 @@
--- What the invariants do not show of `all_marked` by themselves.
-use mathlib.Core.Path.{sym, ◌∙◌}
-use native.Mathlib.Omega.{arith}
-use borrow.Author.Tests.{eq-eqb, ne_eqb}
-use Rattle.lists.proofs.TestedLaws.{every_more, every_fails, every_done}
+-- `check_claim::all_marked` meets its contract: the closure tells of one item what `every` asks of each. Assumes nothing.
+use mathlib.Core.Path.{◌∙◌}
+use lib.ListN.{get_or}
+use lib.Dec.{eqb}
+use Rattle.std.proofs.Common.{rules, tests}
+use Rattle.std.proofs.lemmas.Iterator.{YieldsList-from_slice}
+use Rattle.std.proofs.lemmas.Iterator.Search.{all_from_yields_List}
+use Rattle.check_claim.proofs.GoalLaws.{every_all}
 use Rattle.check_claim.proofs.all_marked.Goals as goal
 
-pub returns-then-mark_of-mark : goal.returns-then-mark_of-mark
-returns-then-mark_of-mark c = every_fails _ _ _ c.loop-i.invariant.1 (omega arith) (ne_eqb _ _ (λ q. c.if-mark_of-mark.true (c.mark_of.ensures ∙ q)))
-
-pub loop-i-preserved : goal.loop-i-preserved
-loop-i-preserved c = (omega arith, every_more _ _ _ c.loop-i.invariant.1 (omega arith) (eq-eqb _ _ (sym c.mark_of.ensures ∙ c.if-mark_of-mark.false)))
-
 pub returns : goal.returns
-returns c = every_done _ _ _ c.loop-i.invariant.1 c.loop-i-test.false
+returns c =
+    all_from_yields_List (λ x. eqb (get_or c.args.marks.now x 0) c.args.mark) _ _ c.all.result c.all.ensures.ran (YieldsList-from_slice c.args.items.now cc) (λ x b q k. search (rules, tests))
+    ∙ every_all _ c.args.items.now

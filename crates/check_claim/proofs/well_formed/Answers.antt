@@ -1,20 +1,32 @@
--- `check_claim::well_formed` meets its contract: the tests in their order, the first that fails decides. Assumes nothing.
-use mathlib.Core.Path.{refl, sym, ◌∙◌}
-use mathlib.Core.Bool.{true, false}
-use Rattle.check_claim.proofs.FormLaws.{formed_is}
+-- `check_claim::well_formed` meets its contract: each of the five tests is asked where the ones before it hold. Assumes nothing.
+use Prim.Native.Nat.{◌+◌}
+use mathlib.Core.Path.{◌≡◌, sym, ◌∙◌}
+use mathlib.Core.Bool.{◌&&◌}
+use lib.Dec.{ltb}
+use Rattle.lists.specs.Lists.{every, ascends}
+use Rattle.check_claim.proofs.FormLaws.{formed_chain}
+use Rattle.check_claim.proofs.GoalLaws.{both, first_fails}
 use Rattle.check_claim.proofs.well_formed.Goals as goal
+use Rattle.check_claim.proofs.well_formed.Goals.{then-all_below, else-all_below, then-all_below-2, else-all_below-2, then-ascending, else-ascending}
 
-pub returns-then-not-all_below : goal.returns-then-not-all_below
-returns-then-not-all_below c = λ S k. formed_is S _ _ _ _ k false _ _ _ _ (sym c.if-not-all_below.true ∙ c.all_below.ensures) refl refl refl refl
+pub returns-then-ascending-2 : goal.returns-then-ascending-2
+returns-then-ascending-2 c =
+    let items = c.args.header.nodes + c.args.header.arcs in
+    let known : c.if-all_below.value ≡ (every (λ i. ltb i items) c.args.goals.now && every (λ i. ltb i items) c.args.reasons.now) =
+    elim c.if-all_below.branch [ then-all_below w ↦ both (sym c.all_below.ensures ∙ w.if-all_below.true) (w.value-is ∙ w.all_below-then-all_below.ensures) | else-all_below w ↦ first_fails _ (sym c.all_below.ensures ∙ w.if-all_below.false) (w.value-is ∙ w.if-all_below.false) ] in
+    let goals_rise : c.if-all_below-2.value ≡ ((every (λ i. ltb i items) c.args.goals.now && every (λ i. ltb i items) c.args.reasons.now) && ascends c.args.goals.now) =
+    elim c.if-all_below-2.branch [ then-all_below-2 w ↦ both (sym known ∙ w.if-all_below-2.true) (w.value-is ∙ w.ascending.ensures) | else-all_below-2 w ↦ first_fails _ (sym known ∙ w.if-all_below-2.false) (w.value-is ∙ w.if-all_below-2.false) ] in
+    let both_rise : c.if-ascending.value ≡ (((every (λ i. ltb i items) c.args.goals.now && every (λ i. ltb i items) c.args.reasons.now) && ascends c.args.goals.now) && ascends c.args.reasons.now) =
+    elim c.if-ascending.branch [ then-ascending w ↦ both (sym goals_rise ∙ w.if-ascending.true) (w.value-is ∙ w.ascending-then-ascending.ensures) | else-ascending w ↦ first_fails _ (sym goals_rise ∙ w.if-ascending.false) (w.value-is ∙ w.if-ascending.false) ] in
+    λ S k. formed_chain S items c.args.first c.args.goals.now c.args.reasons.now k (both (sym both_rise ∙ c.if-ascending-2.true) c.count_fits.ensures)
 
-pub returns-then-not-all_below-2 : goal.returns-then-not-all_below-2
-returns-then-not-all_below-2 c = λ S k. formed_is S _ _ _ _ k true false _ _ _ (sym c.if-not-all_below.false ∙ c.all_below.ensures) (sym c.if-not-all_below-2.true ∙ c.all_below-2.ensures) refl refl refl
-
-pub returns-then-not-ascending : goal.returns-then-not-ascending
-returns-then-not-ascending c = λ S k. formed_is S _ _ _ _ k true true false _ _ (sym c.if-not-all_below.false ∙ c.all_below.ensures) (sym c.if-not-all_below-2.false ∙ c.all_below-2.ensures) (sym c.if-not-ascending.true ∙ c.ascending.ensures) refl refl
-
-pub returns-then-not-ascending-2 : goal.returns-then-not-ascending-2
-returns-then-not-ascending-2 c = λ S k. formed_is S _ _ _ _ k true true true false _ (sym c.if-not-all_below.false ∙ c.all_below.ensures) (sym c.if-not-all_below-2.false ∙ c.all_below-2.ensures) (sym c.if-not-ascending.false ∙ c.ascending.ensures) (sym c.if-not-ascending-2.true ∙ c.ascending-2.ensures) refl
-
-pub returns : goal.returns
-returns c = λ S k. formed_is S _ _ _ _ k true true true true c.count_fits.result (sym c.if-not-all_below.false ∙ c.all_below.ensures) (sym c.if-not-all_below-2.false ∙ c.all_below-2.ensures) (sym c.if-not-ascending.false ∙ c.ascending.ensures) (sym c.if-not-ascending-2.false ∙ c.ascending-2.ensures) c.count_fits.ensures
+pub returns-else-ascending-2 : goal.returns-else-ascending-2
+returns-else-ascending-2 c =
+    let items = c.args.header.nodes + c.args.header.arcs in
+    let known : c.if-all_below.value ≡ (every (λ i. ltb i items) c.args.goals.now && every (λ i. ltb i items) c.args.reasons.now) =
+    elim c.if-all_below.branch [ then-all_below w ↦ both (sym c.all_below.ensures ∙ w.if-all_below.true) (w.value-is ∙ w.all_below-then-all_below.ensures) | else-all_below w ↦ first_fails _ (sym c.all_below.ensures ∙ w.if-all_below.false) (w.value-is ∙ w.if-all_below.false) ] in
+    let goals_rise : c.if-all_below-2.value ≡ ((every (λ i. ltb i items) c.args.goals.now && every (λ i. ltb i items) c.args.reasons.now) && ascends c.args.goals.now) =
+    elim c.if-all_below-2.branch [ then-all_below-2 w ↦ both (sym known ∙ w.if-all_below-2.true) (w.value-is ∙ w.ascending.ensures) | else-all_below-2 w ↦ first_fails _ (sym known ∙ w.if-all_below-2.false) (w.value-is ∙ w.if-all_below-2.false) ] in
+    let both_rise : c.if-ascending.value ≡ (((every (λ i. ltb i items) c.args.goals.now && every (λ i. ltb i items) c.args.reasons.now) && ascends c.args.goals.now) && ascends c.args.reasons.now) =
+    elim c.if-ascending.branch [ then-ascending w ↦ both (sym goals_rise ∙ w.if-ascending.true) (w.value-is ∙ w.ascending-then-ascending.ensures) | else-ascending w ↦ first_fails _ (sym goals_rise ∙ w.if-ascending.false) (w.value-is ∙ w.if-ascending.false) ] in
+    λ S k. formed_chain S items c.args.first c.args.goals.now c.args.reasons.now k (first_fails _ (sym both_rise ∙ c.if-ascending-2.false) c.if-ascending-2.false)

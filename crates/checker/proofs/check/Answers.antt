@@ -3,8 +3,9 @@ use Rattle.checker.proofs.CheckedLaws.{checked_short, checked_left}
 use Rattle.checker.proofs.check.Goals as goal
 
 pub returns-then-work-lt-WORK_NUMBERS : goal.returns-then-work-lt-WORK_NUMBERS
-returns-then-work-lt-WORK_NUMBERS c = checked_short c.args.sheet.now c.args.work.now c.args.slip.now c.refused.ensures c.if-work-lt-WORK_NUMBERS.true
+returns-then-work-lt-WORK_NUMBERS c = checked_short c.args.sheet.now c.args.work.now c.args.slip.now c.if-work-lt-WORK_NUMBERS.true
 
 pub returns : goal.returns
 returns c =
-    checked_left c.args.sheet.now c.args.work.now c.args.slip.now c.if-work-lt-WORK_NUMBERS.false c.check_sheet-answer.ensures c.leave.ensures
+    let k = c.check_sheet-answer in
+    checked_left c.args.sheet.now c.args.work.now c.args.slip.now c.if-work-lt-WORK_NUMBERS.false _ k.ensures.judged k.ensures.refused c.number.ensures c.leave.ensures

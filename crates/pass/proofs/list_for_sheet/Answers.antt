@@ -6,14 +6,6 @@ use Rattle.pass_rules.specs.Verdict.{fits_sheet, reasons_for}
 use Rattle.reason_list.proofs.NothingLaws.{reasons_none}
 use Rattle.pass.proofs.list_for_sheet.Goals as goal
 
-pub invariant_of-net : goal.invariant_of-net
-invariant_of-net c =
-    let W = c.requires.blamed.0.whole in
-    (W.proper, omega (arith, W.sized.0, W.few))
-
-pub invariant_of-query : goal.invariant_of-query
-invariant_of-query c = record { capped = omega (arith, c.requires.blamed.0.whole.limit) }
-
 pub list_reasons-requires : goal.list_reasons-requires
 unfolding fits_sheet is_forbidden
 list_reasons-requires c =

@@ -16,4 +16,4 @@ pub returns : goal.returns
 unfolding passed
 returns c =
     with_work (pass_on c.args.sheet.now) c.args.work.now c.args.slip.now c.if-work-lt-WORK_NUMBERS.false c.if-slip-lt-SLIP_BYTES.false (pass_within c.args.sheet.now) _
-    c.pass_sheet-answer.ensures c.leave.ensures
+    c.pass_sheet-answer.ensures c.number.ensures c.leave.ensures

@@ -1,11 +1,8 @@
--- `pass_marks::put_marks` meets its contract. The invariant: the marks below i stand in front. Assumes nothing.
-use Prim.Native.Nat.{◌+◌, ◌-◌}
+-- `pass_marks::put_marks` meets its contract. The invariant: the marks of the items passed stand in front. Assumes nothing.
+use Prim.Native.Nat.{◌+◌}
 use Rattle.sheet.specs.Sheet.{sheet_of}
 use Rattle.pass_marks.proofs.MarkingLaws.{Marking}
 use Rattle.pass_marks.proofs.put_marks.Given as goal
 
-abbrev pub invariant-loop-i : goal.invariant-loop-i
-invariant-loop-i l = Marking (sheet_of l.header l.arcs l.marks) (l.header.nodes + l.header.arcs) l.initial.out l.out l.i
-
-abbrev pub decreases-loop-i : goal.decreases-loop-i
-decreases-loop-i l = l.header.nodes + l.header.arcs - l.i
+abbrev pub invariant-loop-item : goal.invariant-loop-item
+invariant-loop-item l = Marking (sheet_of l.header l.arcs l.marks) (l.header.nodes + l.header.arcs) l.initial.out l.out l.item

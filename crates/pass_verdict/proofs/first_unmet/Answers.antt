@@ -1,32 +1,26 @@
 -- What the invariants do not show of `first_unmet` by themselves.
-use mathlib.Core.Path.{sym, ◌∙◌}
 use native.Mathlib.Omega.{arith}
 use borrow.Author.Count.{below_more}
-use Rattle.pass_verdict.proofs.JudgeLaws.{first_is, none_is}
+use Rattle.sheet.specs.Sheet.{mark_of, sheet_of}
+use Rattle.pass_verdict.proofs.JudgeLaws.{first_is, none_is, missed_item, met_item, other_item}
 use Rattle.pass_verdict.proofs.first_unmet.Goals as goal
+use Rattle.pass_verdict.proofs.first_unmet.Goals.{else-mark-eq-MANDATORY-via-then-mark-eq-MANDATORY+else-not-fits_item, else-mark-eq-MANDATORY-via-else-mark-eq-MANDATORY}
 
-pub overflow_add-items : goal.overflow_add-items
-overflow_add-items c = omega (arith, c.requires.whole.proper.few, c.requires.whole.few)
+pub returns-then-not-fits_item : goal.returns-then-not-fits_item
+unfolding mark_of
+returns-then-not-fits_item c =
+    first_is c.requires.whole c.loop-item.item (omega (arith, c.requires.whole.sized, c.loop-item-test.true)) c.loop-item.invariant
+    (missed_item (sheet_of c.args.header c.args.arcs.now c.args.marks.now) c.loop-item.item c.fits_item.result c.if-mark-eq-MANDATORY.true c.fits_item.ensures c.if-not-fits_item.true)
 
-pub loop-i-init : goal.loop-i-init
-loop-i-init c = (omega arith, λ j h. absurd (omega arith))
-
-pub is_unmet-requires : goal.is_unmet-requires
-is_unmet-requires c = (c.requires, c.loop-i-test.true)
-
-pub returns-then-is_unmet : goal.returns-then-is_unmet
-returns-then-is_unmet c =
-    first_is c.requires.whole c.loop-i.i c.loop-i-test.true c.loop-i.invariant.1 (sym c.is_unmet.ensures ∙ c.if-is_unmet.true)
-
-pub overflow_add-i : goal.overflow_add-i
-overflow_add-i c = omega (arith, c.requires.whole.proper.few, c.requires.whole.few, c.loop-i-test.true)
-
-pub loop-i-smaller : goal.loop-i-smaller
-loop-i-smaller c = omega (arith, c.loop-i-test.true)
-
-pub loop-i-preserved : goal.loop-i-preserved
-loop-i-preserved c = (omega (arith, c.loop-i-test.true), below_more _ _ c.loop-i.invariant.1 (sym c.is_unmet.ensures ∙ c.if-is_unmet.false))
+pub loop-item-preserved : goal.loop-item-preserved
+unfolding mark_of
+loop-item-preserved c =
+    let S = sheet_of c.args.header c.args.arcs.now c.args.marks.now in
+    below_more _ _ c.loop-item.invariant
+    (elim c.else-mark-eq-MANDATORY.branch [
+      | else-mark-eq-MANDATORY-via-then-mark-eq-MANDATORY+else-not-fits_item w ↦ met_item S c.loop-item.item w.fits_item.result w.if-mark-eq-MANDATORY.true w.fits_item.ensures w.if-not-fits_item.false
+      | else-mark-eq-MANDATORY-via-else-mark-eq-MANDATORY w ↦ other_item S c.loop-item.item w.if-mark-eq-MANDATORY.false
+    ])
 
 pub returns : goal.returns
-returns c =
-    none_is c.requires.whole (λ j h. c.loop-i.invariant.1 j (omega (arith, c.loop-i-test.false)))
+returns c = none_is c.requires.whole (λ j h. c.loop-item.invariant j (omega (arith, c.requires.whole.sized, c.loop-item-test.false)))

@@ -1,5 +1,5 @@
 -- `pass_verdict::first_unmet` meets its contract. The invariant: none of the items passed is unmet. Assumes nothing.
-use Prim.Native.Nat.{ℕ, ◌+◌, ◌-◌, ◌≤◌, ◌<◌}
+use Prim.Native.Nat.{ℕ, ◌<◌}
 use mathlib.Core.Path.{◌≡◌}
 use mathlib.Core.Bool.{false, not, ◌&&◌}
 use mathlib.Core.List.{[], ◌∷◌}
@@ -7,8 +7,5 @@ use Rattle.sheet.specs.Sheet.{is_mandatory, sheet_of}
 use Rattle.pass_rules.specs.Verdict.{fits_sheet}
 use Rattle.pass_verdict.proofs.first_unmet.Given as goal
 
-abbrev pub invariant-loop-i : goal.invariant-loop-i
-invariant-loop-i l = (l.i ≤ l.header.nodes + l.header.arcs) × ((j : ℕ) → j < l.i → (is_mandatory (sheet_of l.header l.arcs l.marks) j && not (fits_sheet (sheet_of l.header l.arcs l.marks) (j ∷ []))) ≡ false)
-
-abbrev pub decreases-loop-i : goal.decreases-loop-i
-decreases-loop-i l = l.header.nodes + l.header.arcs - l.i
+abbrev pub invariant-loop-item : goal.invariant-loop-item
+invariant-loop-item l = (j : ℕ) → j < l.item → (is_mandatory (sheet_of l.header l.arcs l.marks) j && not (fits_sheet (sheet_of l.header l.arcs l.marks) (j ∷ []))) ≡ false

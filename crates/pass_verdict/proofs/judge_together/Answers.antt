@@ -1,43 +1,38 @@
--- `pass_verdict::judge_together` meets its contract: the required items stand in front of the goals, and the length layer says whether a walk meets them.
+-- `pass_verdict::judge_together` meets its contract: the required items stand in front of the room, and the length layer says whether a walk meets them.
 -- Assumes nothing.
-use mathlib.Core.Path.{sym, ap, ◌∙◌}
+use mathlib.Core.Path.{refl, sym, ap, ◌∙◌}
 use native.Mathlib.Omega.{arith}
-use lib.ListN.{length}
 use Rattle.sheet.specs.Sheet.{is_forbidden, sheet_of}
 use Rattle.pass_rules.specs.Verdict.{fits_sheet}
 use Rattle.sheet_required.proofs.WholeLaws.{room_front}
-use Rattle.pass_verdict.proofs.JudgeLaws.{required_sought, nothing_required, judged_zero, judged_three}
+use Rattle.pass_verdict.proofs.JudgeLaws.{required_sought, nothing_required, judged_stands, judged_apart}
 use Rattle.pass_verdict.proofs.judge_together.Goals as goal
-
-pub returns-then-count-eq0 : goal.returns-then-count-eq0
-returns-then-count-eq0 c =
-    let q = c.required_items-count in
-    judged_zero c.args.header c.args.arcs.now c.args.marks.now _ _ c.requires.fits_and_each_must_met.0 c.requires.fits_and_each_must_met.1 (nothing_required _ c.requires.fits_and_each_must_met.0 (sym q.ensures.counted ∙ c.if-count-eq0.true))
-
-pub slice_bounds-fits_goals-end : goal.slice_bounds-fits_goals-end
-slice_bounds-fits_goals-end c =
-    let q = c.required_items-count in
-    omega (arith, q.ensures.counted, c.requires.whole_with_room.1, c.requires.whole_with_room.0.eight, q.auto.list)
-
-pub slice_bounds-fits_goals-end-2 : goal.slice_bounds-fits_goals-end-2
-slice_bounds-fits_goals-end-2 c = c.required_items-count.ensures.counted ∙ sym (ap length (room_front c.required_items-count.ensures (omega (arith, c.requires.whole_with_room.1, c.requires.whole_with_room.0.eight))))
+use Rattle.pass_verdict.proofs.judge_together.Goals.{then-count-eq0-via-then-count-eq0, then-count-eq0-via-else-count-eq0+then-fits_goals}
 
 pub fits_goals-requires : goal.fits_goals-requires
 fits_goals-requires c =
-    (rw (room_front c.required_items-count.ensures (omega (arith, c.requires.whole_with_room.1, c.requires.whole_with_room.0.eight))) (required_sought c.requires.whole_with_room.0), c.requires.whole_with_room.2)
+    let W = c.requires.whole_with_room in
+    (rw (room_front c.required_items-count.ensures (omega (arith, W.1, W.0.eight))) (required_sought W.0), W.2)
 
-pub returns-then-fits_goals : goal.returns-then-fits_goals
+pub returns-then-count-eq0 : goal.returns-then-count-eq0
 unfolding fits_sheet is_forbidden
-returns-then-fits_goals c =
-    let f = c.fits_goals in
-    judged_zero c.args.header c.args.arcs.now c.args.marks.now _ _ c.requires.fits_and_each_must_met.0 c.requires.fits_and_each_must_met.1
-    (ap (fits_sheet (sheet_of c.args.header c.args.arcs.now c.args.marks.now)) (sym (room_front c.required_items-count.ensures (omega (arith, c.requires.whole_with_room.1, c.requires.whole_with_room.0.eight)))) ∙ sym f.ensures.tells_whether_fits ∙ c.if-fits_goals.true)
+returns-then-count-eq0 c =
+    let W = c.requires.whole_with_room in
+    let F = c.requires.fits_and_each_must_met in
+    let S = sheet_of c.args.header c.args.arcs.now c.args.marks.now in
+    let q = c.required_items-count in
+    judged_stands c.args.header c.args.arcs.now c.args.marks.now _ F.0 F.1
+    (elim c.then-count-eq0.branch [
+      | then-count-eq0-via-then-count-eq0 w ↦ nothing_required S F.0 (sym q.ensures.counted ∙ w.if-count-eq0.true)
+      | then-count-eq0-via-else-count-eq0+then-fits_goals w ↦ ap (fits_sheet S) (sym (room_front q.ensures (omega (arith, W.1, W.0.eight)))) ∙ sym w.fits_goals.ensures.tells_whether_fits ∙ w.if-fits_goals.true
+    ])
 
 pub returns : goal.returns
 unfolding fits_sheet is_forbidden
 returns c =
-    let q = c.required_items-count in
+    let W = c.requires.whole_with_room in
+    let F = c.requires.fits_and_each_must_met in
     let f = c.fits_goals in
-    let e = (room_front c.required_items-count.ensures (omega (arith, c.requires.whole_with_room.1, c.requires.whole_with_room.0.eight))) in
-    judged_three c.args.header c.args.arcs.now c.args.marks.now _ _ c.requires.fits_and_each_must_met.0 c.requires.fits_and_each_must_met.1 q.result
-    (ap (fits_sheet (sheet_of c.args.header c.args.arcs.now c.args.marks.now)) (sym e) ∙ sym f.ensures.tells_whether_fits ∙ c.if-fits_goals.false) e (omega (arith, q.ensures.counted, c.requires.whole_with_room.0.eight)) f.ensures.rows_filled
+    let e = room_front c.required_items-count.ensures (omega (arith, W.1, W.0.eight)) in
+    judged_apart c.args.header c.args.arcs.now c.args.marks.now _ F.0 F.1 _ refl
+    (ap (fits_sheet (sheet_of c.args.header c.args.arcs.now c.args.marks.now)) (sym e) ∙ sym f.ensures.tells_whether_fits ∙ c.if-fits_goals.false) e W.0.eight f.ensures.rows_filled

@@ -1,7 +1,5 @@
 -- `ways_check` meets its contract: 1, or what sheet and slip draw, told in bytes. Assumes nothing.
-use Prim.Native.Nat.{ℕ, ◌+◌, ◌*◌}
-use mathlib.Core.Path.{ap, ◌∙◌}
-use Rattle.planner.proofs.CheckLaws.{short_check, check_in_bytes, check_small, yes_small, yes_is}
+use Rattle.planner.proofs.CheckLaws.{short_check, check_in_bytes, check_small}
 use Rattle.planner.proofs.ways_check.Goals as goal
 
 pub returns-then-work-lt-WORK_BYTES : goal.returns-then-work-lt-WORK_BYTES
@@ -9,9 +7,13 @@ returns-then-work-lt-WORK_BYTES c = short_check _ _ _ c.if-work-lt-WORK_BYTES.tr
 
 pub one_number-requires : goal.one_number-requires
 one_number-requires c =
-    (check_small c.args.sheet.now c.args.work.now c.args.slip.now _ c.check_sheet-answer.ensures, yes_small c.check_sheet-answer.result.yes c.from.ensures)
+    let k = c.check_sheet in
+    let n = c.counted-answer in
+    check_small c.args.sheet.now c.args.work.now c.args.slip.now k.result k.ensures.judged k.ensures.refused n.ensures.number n.ensures.length
 
 pub returns : goal.returns
 returns c =
-    let k = c.check_sheet-answer in
-    check_in_bytes c.args.sheet.now c.args.work.now c.args.slip.now _ k.ensures c.if-work-lt-WORK_BYTES.false (c.one_number.ensures ∙ ap (λ (n : ℕ). 65536 * k.result.number + n) (yes_is _ c.from.ensures)) c.leave_bytes.ensures
+    let k = c.check_sheet in
+    let n = c.counted-answer in
+    check_in_bytes c.args.sheet.now c.args.work.now c.args.slip.now k.result k.ensures.judged k.ensures.refused n.ensures.number n.ensures.length c.if-work-lt-WORK_BYTES.false
+    c.one_number.ensures c.number.ensures c.leave_bytes.ensures

@@ -20,4 +20,4 @@ pub returns : goal.returns
 unfolding passed_bytes
 returns c =
     in_bytes (pass_on c.args.sheet.now) c.args.work.now c.args.slip.now c.if-work-lt-WORK_BYTES.false c.if-slip-lt-SLIP_BYTES.false (pass_within c.args.sheet.now) _
-    c.pass_sheet-answer.ensures c.one_number.ensures c.leave_bytes.ensures
+    c.pass_sheet-answer.ensures c.number.ensures c.one_number.ensures c.leave_bytes.ensures

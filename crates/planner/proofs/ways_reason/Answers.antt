@@ -20,4 +20,4 @@ pub returns : goal.returns
 unfolding reasoned_bytes
 returns c =
     in_bytes (reason_on c.args.sheet.now c.args.item) c.args.work.now c.args.slip.now c.if-work-lt-WORK_BYTES.false c.if-slip-lt-SLIP_BYTES.false (reason_within c.args.sheet.now c.args.item) _
-    c.reason_sheet-answer.ensures c.one_number.ensures c.leave_bytes.ensures
+    c.reason_sheet-answer.ensures c.number.ensures c.one_number.ensures c.leave_bytes.ensures

@@ -1,28 +1,21 @@
 -- `reason::explain_item` meets its contract: 15 for no item, 16 for one that is not pruned, and else the slip of its own goal. Assumes nothing.
-use Prim.Native.Nat.{◌≤◌}
 use mathlib.Core.Path.{sym, ap, ◌∙◌}
 use mathlib.Core.List.{List, [], ◌∷◌}
 use native.Mathlib.Omega.{arith}
 use lib.ListN.{length}
-use lib.Seq.{length-take-le}
 use Rattle.lists.specs.Lists.{front}
 use Rattle.sheet.specs.Slip.{slip_bytes}
 use Rattle.item_fits.proofs.AskedLaws.{whole_sought}
-use Rattle.pass.proofs.AnswerLaws.{reasons_inside}
 use Rattle.pass.proofs.OutcomeLaws.{wrote_none, wrote_bytes}
 use Rattle.pass.specs.Blamed.{Blamed}
 use Rattle.reason.proofs.ItemLaws.{no_item, not_pruned, pruned, blamed, item_slip, item_room}
 use Rattle.reason.proofs.explain_item.Goals as goal
-use Rattle.reason.proofs.explain_item.Goals.{After-list_for_sheet-n, Else-not-is_pruned}
+use Rattle.reason.proofs.explain_item.Goals.{Else-not-is_pruned}
 
 -- no walk within the limit meets the item
 unmet : (p : goal.Else-not-is_pruned) → Blamed p.args.header p.args.arcs.now p.args.marks.now (p.args.item ∷ [])
 unmet p =
     blamed p.requires.0 p.args.item p.if-header-item.false (sym p.is_pruned.ensures ∙ p.if-not-is_pruned.false)
-
--- the reasons that were listed
-reasons-long : (p : goal.After-list_for_sheet-n) → p.list_for_sheet-n.result ≤ length p.list_for_sheet-n.new.list
-reasons-long p = let r = p.list_for_sheet-n in reasons_inside p.requires.0 _ _ r.ensures r.auto.list
 
 pub returns-then-header-item : goal.returns-then-header-item
 returns-then-header-item c = wrote_none (no_item c.requires.0 c.args.item c.if-header-item.true)
@@ -40,12 +33,6 @@ pub list_for_sheet-n-requires : goal.list_for_sheet-n-requires
 list_for_sheet-n-requires c =
     let t = c.ready_rows in
     record { blamed = (unmet (goal.at.list_for_sheet-n-requires c).Else-not-is_pruned, omega (arith, c.requires.1, t.auto.scratch, c.is_pruned.auto.scratch), omega arith); rows_ready_if_forbidden = t.ensures }
-
-pub slice_bounds-list-end : goal.slice_bounds-list-end
-slice_bounds-list-end c = reasons-long (goal.at.slice_bounds-list-end c).After-list_for_sheet-n
-
-pub slice_bounds-write_slip-end-2 : goal.slice_bounds-write_slip-end-2
-slice_bounds-write_slip-end-2 c = let r = c.list_for_sheet-n in sym (length-take-le r.result r.new.list (reasons-long (goal.at.slice_bounds-write_slip-end-2 c).After-list_for_sheet-n))
 
 pub write_slip-requires : goal.write_slip-requires
 write_slip-requires c =

@@ -16,4 +16,4 @@ pub returns : goal.returns
 unfolding reasoned
 returns c =
     with_work (reason_on c.args.sheet.now c.args.item) c.args.work.now c.args.slip.now c.if-work-lt-WORK_NUMBERS.false c.if-slip-lt-SLIP_BYTES.false (reason_within c.args.sheet.now c.args.item) _
-    c.reason_sheet-answer.ensures c.leave.ensures
+    c.reason_sheet-answer.ensures c.number.ensures c.leave.ensures

@@ -9,24 +9,6 @@ use Rattle.text_cost.proofs.explained.Goals as goal
 pub returns-in-Err : goal.returns-in-Err
 returns-in-Err c = absurd (never_refused _ _ _ _ c.requires c.in-Err.ensures.refused)
 
-pub overflow_mul-numbers : goal.overflow_mul-numbers
-overflow_mul-numbers c = omega (arith, c.in-Ok.ensures.loaded.whole.few)
-
-pub overflow_add-items : goal.overflow_add-items
-overflow_add-items c = let W = c.in-Ok.ensures.loaded.whole in omega (arith, W.few, W.proper.few)
-
-pub slice_bounds-arcs-end : goal.slice_bounds-arcs-end
-slice_bounds-arcs-end c = omega (arith, c.in-Ok.ensures.loaded.whole.few, c.read.auto.arcs)
-
-pub slice_bounds-listed-end : goal.slice_bounds-listed-end
-slice_bounds-listed-end c = sym c.in-Ok.ensures.loaded.whole.sized.0
-
-pub slice_bounds-marks-end : goal.slice_bounds-marks-end
-slice_bounds-marks-end c = let W = c.in-Ok.ensures.loaded.whole in omega (arith, W.few, W.proper.few, c.read.auto.marks)
-
-pub slice_bounds-listed-end-in-Ok : goal.slice_bounds-listed-end-in-Ok
-slice_bounds-listed-end-in-Ok c = sym c.in-Ok.ensures.loaded.whole.sized.1
-
 pub listed-requires : goal.listed-requires
 listed-requires c =
     let L = c.in-Ok.ensures.loaded in

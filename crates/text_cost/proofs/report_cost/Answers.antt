@@ -7,4 +7,4 @@ pub returns-in-Ok : goal.returns-in-Ok
 returns-in-Ok c = c.answered.ensures ∙ read_text c.args.input.now _ _ c.in-Ok.ensures.got
 
 pub returns-in-Err : goal.returns-in-Err
-returns-in-Err c = rw c.from.ensures (unread_text c.args.input.now _ c.in-Err.ensures.refused)
+returns-in-Err c = unread_text c.args.input.now _ c.in-Err.ensures.refused

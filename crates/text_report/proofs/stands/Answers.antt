@@ -1,14 +1,8 @@
 -- `stands` lists the items newly forbidden by the sheet's marks, which it reads again, and by those of the slip.
-use Rattle.std.proofs.Common.{refl, sym, ap, ◌∙◌, arith}
+use Rattle.std.proofs.Common.{refl, sym, ap, ◌∙◌}
 use Rattle.text_answer.specs.Text.{stands_text}
 use Rattle.text_report.proofs.SlipTextLaws.{never_refused, stands_is}
 use Rattle.text_report.proofs.stands.Goals as goal
-
-pub overflow_add-items : goal.overflow_add-items
-overflow_add-items c = let W = c.in-Ok.ensures.loaded.whole in omega (arith, W.few, W.proper.few)
-
-pub slice_bounds-marks-end : goal.slice_bounds-marks-end
-slice_bounds-marks-end c = let W = c.in-Ok.ensures.loaded.whole in omega (arith, W.few, W.proper.few, c.read.auto.marks)
 
 pub newly_forbidden-requires : goal.newly_forbidden-requires
 newly_forbidden-requires c = let T = (stands_is c.args.sheet.now c.args.slip.now _ _ c.requires.0 c.requires.1 c.in-Ok.ensures.loaded.makes refl) in (T.longer, T.few)
