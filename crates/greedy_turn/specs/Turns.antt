@@ -1,5 +1,5 @@
 -- What holds while the items are gone through.
-use Rattle.std.specs.Prelude.{ℕ, ◌+◌, ◌-◌, ◌≤◌, ◌<◌, ◌≡◌, Bool, true, false, not, List, length, get_or, set, take}
+use Rattle.std.specs.Prelude.{ℕ, ◌+◌, ◌≤◌, ◌<◌, ◌≡◌, Bool, true, false, not, List, length, get_or, set, take}
 use Rattle.lists.specs.Lists.{Distinct, pick}
 use Rattle.walks.specs.Flat.{graph_of}
 use Rattle.walks.specs.Graph.{Graph, closed_in, fits}

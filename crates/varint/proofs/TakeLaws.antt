@@ -79,3 +79,7 @@ module _ {s : List ℕ} {i scale sum : ℕ} {rest : List ℕ} (w : Taking s i re
         }
 
 pub ruleset taken = (begun, ends, too_many, needless, gives, more, scale_low, product_low, sum_low)
+
+-- a number of one byte
+pub one : {s : List ℕ} {b : ℕ} {tail : List ℕ} → s ≡ b ∷ tail → b < 128 → read_number s ≡ got b tail
+one {s} {b} {tail} e l = gives (begun s) (omega arith) e l (λ z. refl) ∙ ap (λ (n : ℕ). got n tail) (omega arith)

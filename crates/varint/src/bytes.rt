@@ -22,6 +22,13 @@ impl Bytes<'_> {
         ensures kept { OnErr result (self.new.rest.now ≡ self.old.rest.now) }
         ensures small { IfOk result (λ x. x < 268435456) }
     {
+        // Nearly every number has one byte: taken by itself, it needs no product.
+        if let Some((&only, behind)) = self.rest.split_first() {
+            if only < 128 {
+                self.rest = behind;
+                return Ok(only as u32);
+            }
+        }
         let mut rest = self.rest;
         let mut sum = 0;
         let mut scale: u32 = 1;

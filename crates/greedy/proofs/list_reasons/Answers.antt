@@ -1,7 +1,6 @@
 -- `greedy::list_reasons` meets its contract: the marks are copied, and the copy closes the same items. Assumes nothing.
-use Prim.Native.Nat.{◌+◌, ◌<◌, ◌≤◌}
-use mathlib.Core.Path.{◌≡◌, ap, ◌∙◌}
-use mathlib.Core.List.{List}
+use Prim.Native.Nat.{◌+◌, ◌<◌}
+use mathlib.Core.Path.{◌∙◌}
 use native.Mathlib.Omega.{arith}
 use lib.ListN.{length, get_or, take}
 use Rattle.lists.specs.Lists.{Put}

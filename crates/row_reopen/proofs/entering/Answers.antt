@@ -1,6 +1,5 @@
 -- What the invariant does not show of `entering` by itself.
 use mathlib.Core.Logic.{inl, inr}
-use native.Mathlib.Omega.{arith}
 use Rattle.row_reopen.proofs.RowsOpened.{entering_begun, entering_more}
 use Rattle.row_reopen.proofs.entering.Goals as goal
 use Rattle.row_reopen.proofs.entering.Goals.{then-arcs-arc, else-arcs-arc}

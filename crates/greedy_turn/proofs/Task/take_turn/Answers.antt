@@ -4,7 +4,7 @@ use mathlib.Core.Path.{◌≡◌, refl, ◌∙◌}
 use mathlib.Core.Bool.{true}
 use native.Mathlib.Omega.{arith}
 use borrow.Author.Tests.{eq-eqb, ne_eqb}
-use lib.ListN.{set, length-set}
+use lib.ListN.{length-set}
 use Rattle.walks.specs.Graph.{closed_in}
 use Rattle.row_links.proofs.LinkLaws.{linked_shaped, item_linked}
 use Rattle.greedy_turn.proofs.TurnLaws.{set_proper, set_goals, in_turn, closed_again, turn_passed, turn_opened, turn_listed, state_opened, state_listed}

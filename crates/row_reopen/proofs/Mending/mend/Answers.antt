@@ -1,7 +1,6 @@
 -- `row_reopen::Mending::mend` meets its contract: a row of which the arc can cut no entry is left, and else it is kept before it is mended. Assumes nothing.
 use Prim.Native.Nat.{ℕ, ◌+◌, ◌*◌, ◌-◌}
 use mathlib.Core.Path.{◌≡◌, refl, ap, ◌∙◌}
-use mathlib.Core.List.{List}
 use native.Mathlib.Omega.{arith}
 use borrow.Rule.Slice.PartMut.{mid_len, post_of}
 use lib.ListN.{length, drop}

@@ -1,20 +1,23 @@
 -- What the invariant and the laws of `TakeLaws` do not show of `take_number` by themselves.
 use native.Mathlib.Omega.{arith}
-use Rattle.varint.proofs.TakeLaws.{needless, gives, more}
+use Rattle.varint.proofs.TakeLaws.{one, needless, gives, more}
 use Rattle.varint.proofs.bytes.Bytes.take_number.Goals as goal
 use Rattle.varint.proofs.bytes.Bytes.take_number.Goals.{else-group-eq0-via-then-group-eq0+else-i-gt0, else-group-eq0-via-else-group-eq0}
 
+pub returns-then-only-lt128-clause-got : goal.returns-then-only-lt128-clause-got
+returns-then-only-lt128-clause-got c = one c.in-Some.ensures.cases.0 c.if-only-lt128.true
+
 pub returns-then-i-gt0-clause-refused : goal.returns-then-i-gt0-clause-refused
 returns-then-i-gt0-clause-refused c =
-    needless c.loop-i.invariant.taking c.loop-i-test.true c.in-Some.ensures.cases.0 c.if-group-eq0.true c.if-i-gt0.true
+    needless c.loop-i.invariant.taking c.loop-i-test.true c.in-Some-split_first.ensures.cases.0 c.if-group-eq0.true c.if-i-gt0.true
 
 pub returns-then-group-lt128-clause-got : goal.returns-then-group-lt128-clause-got
 returns-then-group-lt128-clause-got c =
-    gives c.loop-i.invariant.taking c.loop-i-test.true c.in-Some.ensures.cases.0 c.if-group-lt128.true
+    gives c.loop-i.invariant.taking c.loop-i-test.true c.in-Some-split_first.ensures.cases.0 c.if-group-lt128.true
     (λ z. elim c.else-group-eq0.branch [ else-group-eq0-via-then-group-eq0+else-i-gt0 w ↦ omega arith | else-group-eq0-via-else-group-eq0 w ↦ absurd (w.if-group-eq0.false z) ])
 
 pub loop-i-preserved : goal.loop-i-preserved
 loop-i-preserved c = record {
-  taking = more c.loop-i.invariant.taking c.loop-i-test.true c.in-Some.ensures.cases.0 c.if-group-lt128.false (omega arith);
+  taking = more c.loop-i.invariant.taking c.loop-i-test.true c.in-Some-split_first.ensures.cases.0 c.if-group-lt128.false (omega arith);
   kept = c.loop-i.invariant.kept;
 }
