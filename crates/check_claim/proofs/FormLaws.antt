@@ -14,6 +14,7 @@ use Rattle.lists.proofs.TestLaws.{and_true, false_of, or_true}
 use Rattle.lists.proofs.MemberLaws.{every_at, place_member}
 use Rattle.lists.proofs.AscendLaws.{ascends_distinct}
 use Rattle.lists.proofs.Pigeonhole.{pigeonhole, below_all}
+use Rattle.walks.specs.declared.arc.Arc.{Arc}
 use Rattle.walks.specs.Graph.{item_count}
 use Rattle.walks.specs.Flat.{graph_of}
 use Rattle.sheet.specs.declared.Header.{Header}
@@ -28,8 +29,13 @@ pub and_assoc : (a b c : Bool) → ((a && b) && c) ≡ (a && (b && c))
 and_assoc true b c = refl
 and_assoc false b c = refl
 
+regroup : (a b c d e : Bool) → (((a && c) && (b && d)) && e) ≡ (a && (b && (c && (d && e))))
+regroup true true c d e = and_assoc c d e
+regroup true false true d e = refl
+regroup true false false d e = refl
+regroup false b c d e = refl
+
 every_append : (f : ℕ → Bool) (xs ys : List ℕ) → every f (xs ++ ys) ≡ (every f xs && every f ys)
-unfolding every
 every_append f [] ys = refl
 every_append f (x ∷ xs) ys = rw (every_append f xs ys) (sym (and_assoc (f x) (every f xs) (every f ys)))
 
@@ -43,16 +49,15 @@ module _ (S : Sheet) (items first : ℕ) (goals reasons : List ℕ) (k : item_co
       let q' : b ≡ every (λ i. ltb i (item_count S.graph)) reasons = q ∙ ap (λ (m : ℕ). every (λ i. ltb i m) reasons) (sym k) in
       rw (every_append, ← p', ← q', ← r, ← s, ← t) (sym (and_assoc a b (c && (d && e))))
 
-  -- the same tests, each asked where the ones before it hold
-  pub formed_chain : {v : Bool} → v ≡ ((((every (λ i. ltb i items) goals && every (λ i. ltb i items) reasons) && ascends goals) && ascends reasons) && goal_count first (length goals))
+  -- the same tests list by list
+  pub formed_chain : {v : Bool}
+      → v ≡ (((every (λ i. ltb i items) goals && ascends goals) && (every (λ i. ltb i items) reasons && ascends reasons)) && goal_count first (length goals))
       → v ≡ well_formed S (slip_from first goals reasons)
-  formed_chain {v} e =
+  formed_chain e =
       let a = every (λ i. ltb i items) goals in
       let b = every (λ i. ltb i items) reasons in
-      let c = ascends goals in
-      let d = ascends reasons in
       let g = goal_count first (length goals) in
-      e ∙ and_assoc ((a && b) && c) d g ∙ and_assoc (a && b) c (d && g) ∙ and_assoc a b (c && (d && g)) ∙ formed_is a b c d g refl refl refl refl refl
+      e ∙ regroup a b (ascends goals) (ascends reasons) g ∙ formed_is a b (ascends goals) (ascends reasons) g refl refl refl refl refl
 
 -- the parts of a slip that is well formed
 record Parts (S : Sheet) (first : ℕ) (goals reasons : List ℕ) : Type 0 where
@@ -104,17 +109,11 @@ too_many S first goals reasons {g} {r} {n} p q k t =
     ⊎_elim (λ h. many_goals S first goals reasons (omega (arith, ltb-true 8 g h))) (λ h. many_reasons S first goals reasons (omega (arith, ltb-true n r h))) (or_true (ltb 8 g) (ltb n r) t)
 
 -- a slip that is well formed for a whole sheet can be asked for a least length
-pub formed_asked : {h : Header} {arcs marks : List ℕ} (first : ℕ) (goals reasons : List ℕ) → Whole h arcs marks
+pub formed_asked : {h : Header} {arcs : List Arc} {marks : List ℕ} (first : ℕ) (goals reasons : List ℕ) → Whole h arcs marks
     → well_formed (sheet_of h arcs marks) (slip_from first goals reasons) ≡ true → Claimed h arcs goals reasons
 formed_asked {h} {arcs} {marks} first goals reasons W w = record {
-  sought = λ ms l. record {
-    proper = record { few = W.proper.few; marked = omega (arith, W.sized.0, W.few, W.proper.few); tails = W.proper.tails; heads = W.proper.heads };
-    few = omega (arith, W.sized.0, W.few);
-    source = W.source;
-    target = W.target;
-    limit = W.limit;
-    fit = record { eight = few_counted first (length goals) P.counted; below = λ i l. omega (arith, known i l, W.sized.0); distinct = ascends_distinct goals P.goals_rise };
-  };
+  proper = λ ms l. record { few = W.proper.few; marked = omega (arith, W.sized.0, W.few, W.proper.few); tails = W.proper.tails; heads = W.proper.heads };
+  fit = λ ms. record { eight = few_counted first (length goals) P.counted; below = λ i l. omega (arith, known i l, W.sized.0); distinct = ascends_distinct goals P.goals_rise };
   items = λ j m. omega (arith, ltb-true j _ (every_at (λ i. ltb i (item_count (graph_of h.nodes arcs))) reasons j P.reasons_known m), items_are W, W.few, W.proper.few);
 }
   where

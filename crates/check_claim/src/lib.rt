@@ -1,93 +1,94 @@
 // What a slip says of a sheet (docs/FORMATS.md, 'The slip'): whether its goals and reasons are well formed and of their kinds on the sheet.
 #![tactic(auto)]
 
-ghost use Rattle.std.specs.Prelude.{◌≡◌, true, ◌&&◌, ◌+◌, ◌≤◌, ◌<◌, get_or, eqb};
-ghost use Rattle.lists.specs.Lists.{member, every};
+ghost use Rattle.std.specs.Prelude.{◌≡◌, true, ◌&&◌, ◌+◌, ◌≤◌, ◌<◌, get_or, eqb, ltb};
+ghost use Rattle.lists.specs.Lists.{member, every, ascends};
 ghost use Rattle.walks.specs.Graph.{item_count};
-ghost use Rattle.sheet.specs.Sheet.{Sheet, is_forbidden, required, sheet_of};
-ghost use Rattle.sheet_required.specs.Whole.{Whole};
+ghost use Rattle.sheet.specs.Sheet.{Sheet as Plan, is_forbidden, required, sheet_of};
 ghost use Rattle.slip_reader.specs.Form.{slip_from};
+ghost use Rattle.slip_reader.specs.Claim.{claim_number};
 ghost use Rattle.check_rules.specs.Check.{goal_count, well_formed, is_goal};
 
 use sheet::Header;
-use walks::{FORBIDDEN, GOALS, MANDATORY, OPEN};
+use sheet_required::whole::Sheet;
+use slip_reader::claim::Claim;
+use walks::GOALS;
+use walks::mark::Mark;
 
 // The mark of an item, open where there is none.
-fn mark_of(marks: &[u8], item: usize) -> u8
+fn mark_of(marks: &[Mark], item: u32) -> Mark
     ensures { result ≡ get_or marks.now item 0 }
 {
-    marks.get(item).copied().unwrap_or(OPEN)
+    marks.get(item as usize).copied().unwrap_or(Mark::OPEN)
 }
 
 // Whether each of the items has the mark.
-pub fn all_marked(marks: &[u8], items: &[usize], mark: u8) -> bool
+pub fn all_marked(marks: &[Mark], items: &[u32], mark: Mark) -> bool
     ensures { result ≡ every (λ x. eqb (get_or marks.now x 0) mark) items.now }
 {
     items.iter().all(|&item| mark_of(marks, item) == mark)
 }
 
-// Whether a slip with this first number may have so many goals.
+// Whether a slip with this claim may have so many goals.
 #[tactic(auto, unfolding(check_rules::specs::Check::goal_count))]
-fn count_fits(first: u32, count: usize) -> bool
-    ensures { result ≡ goal_count first count }
+fn count_fits(claim: Claim, count: usize) -> bool
+    ensures { result ≡ goal_count (claim_number claim) count }
 {
-    match first {
-        1 => count == 0,
-        3 => 1 <= count && count <= GOALS,
-        _ => count == 1,
+    match claim {
+        Claim::NoWay => count == 0,
+        Claim::Apart => 1 <= count && count <= GOALS,
+        Claim::Unmet | Claim::Struck => count == 1,
     }
+}
+
+// Whether the items are below the bound and strictly ascending.
+#[tactic(auto, using(lists::proofs::StdLaws::told))]
+fn rising_below(items: &[u32], bound: u32) -> bool
+    ensures { result ≡ (every (λ i. ltb i bound) items.now && ascends items.now) }
+{
+    lists::all_below(items, &bound) && lists::ascending(items)
 }
 
 // What 18 asks: known items, goals and reasons strictly ascending, the goal count.
-pub fn well_formed(header: Header, first: u32, goals: &[usize], reasons: &[usize]) -> bool
+pub fn well_formed(header: Header, claim: Claim, goals: &[u32], reasons: &[u32]) -> bool
     requires { (header.nodes ≤ 64) × (header.arcs ≤ 512) }
-    ensures { let s = slip_from first goals.now reasons.now in
-        ((S : Sheet) → item_count S.graph ≡ header.nodes + header.arcs → result ≡ well_formed S s) }
+    ensures { let s = slip_from (claim_number claim) goals.now reasons.now in
+        ((S : Plan) → item_count S.graph ≡ header.nodes + header.arcs → result ≡ well_formed S s) }
 {
-    let items = header.nodes + header.arcs;
-    lists::all_below(goals, items)
-        && lists::all_below(reasons, items)
-        && lists::ascending(goals)
-        && lists::ascending(reasons)
-        && count_fits(first, goals.len())
+    let items = (header.nodes + header.arcs) as u32;
+    rising_below(goals, items) && rising_below(reasons, items) && count_fits(claim, goals.len())
 }
 
 // Whether each of the goals is a required item.
-fn all_required(header: Header, arcs: &[u32], marks: &[u8], goals: &[usize]) -> bool
-    requires { Whole header arcs.now marks.now }
-    ensures { result ≡ every (λ x. member x (required (sheet_of header arcs.now marks.now))) goals.now }
+#[tactic(auto, using(lists::proofs::StdLaws::told))]
+fn all_required(sheet: &Sheet, goals: &[u32]) -> bool
+    ensures { let s = sheet.now in
+        result ≡ every (λ x. member x (required (sheet_of s.header s.arcs.now s.marks.now))) goals.now }
 {
-    let mut items = [0usize; GOALS];
-    let count = sheet_required::required_items(header, arcs, marks, &mut items);
+    let mut items = [0u32; GOALS];
+    let count = sheet_required::required_items(sheet.header, &sheet.arcs, sheet.marks, &mut items);
     lists::all_listed(goals, &items[..count])
 }
 
-// Whether the goals are as the first number says: mandatory for 2, required for 3, open for 4.
+// Whether the goals are of the kind that the claim is made of: mandatory, required or open.
 #[tactic(auto, unfolding(check_rules::specs::Check::is_goal, sheet::specs::Sheet::is_mandatory, sheet::specs::Sheet::is_open, sheet::specs::Sheet::mark_of))]
-fn goals_hold(header: Header, arcs: &[u32], marks: &[u8], first: u32, goals: &[usize]) -> bool
-    requires { Whole header arcs.now marks.now }
-    ensures { result ≡ every (is_goal (sheet_of header arcs.now marks.now) first) goals.now }
+fn goals_hold(sheet: &Sheet, claim: Claim, goals: &[u32]) -> bool
+    ensures { let s = sheet.now in
+        result ≡ every (is_goal (sheet_of s.header s.arcs.now s.marks.now) (claim_number claim)) goals.now }
 {
-    match first {
-        2 => all_marked(marks, goals, MANDATORY),
-        3 => all_required(header, arcs, marks, goals),
-        _ => all_marked(marks, goals, OPEN),
+    match claim {
+        Claim::Unmet => all_marked(sheet.marks, goals, Mark::MANDATORY),
+        Claim::Apart => all_required(sheet, goals),
+        Claim::NoWay | Claim::Struck => all_marked(sheet.marks, goals, Mark::OPEN),
     }
 }
 
-// Whether every reason is forbidden on the sheet, and the goals are as the first number says.
+// Whether every reason is forbidden on the sheet, and the goals are as the claim says.
 #[tactic(auto, unfolding(sheet::specs::Sheet::is_forbidden))]
-pub fn kinds_hold(
-    header: Header,
-    arcs: &[u32],
-    marks: &[u8],
-    first: u32,
-    goals: &[usize],
-    reasons: &[usize],
-) -> bool
-    requires { Whole header arcs.now marks.now }
-    ensures { let S = sheet_of header arcs.now marks.now in
-        result ≡ (every (is_forbidden S) reasons.now && every (is_goal S first) goals.now) }
+pub fn kinds_hold(sheet: &Sheet, claim: Claim, goals: &[u32], reasons: &[u32]) -> bool
+    ensures { let s = sheet.now in
+        let S = sheet_of s.header s.arcs.now s.marks.now in
+        result ≡ (every (is_forbidden S) reasons.now && every (is_goal S (claim_number claim)) goals.now) }
 {
-    all_marked(marks, reasons, FORBIDDEN) && goals_hold(header, arcs, marks, first, goals)
+    all_marked(sheet.marks, reasons, Mark::FORBIDDEN) && goals_hold(sheet, claim, goals)
 }

@@ -137,7 +137,6 @@ module _ (sheet : List ℕ) (S : Sheet) (a : taken sheet ≡ got S []) where
       yes r = let f = slip_read slip s [] e in rule_holds S s f.0 f.1 (formed_parts S s w) r
 
 below_every : (n : ℕ) (xs : List ℕ) → Below n xs → every (λ i. ltb i n) xs ≡ true
-unfolding every
 below_every n [] b = refl
 below_every n (x ∷ xs) b = true_and (lt-ltb x n b.0) (below_every n xs b.1)
 

@@ -43,7 +43,6 @@ check_drawn sheet slip =
 
 -- none of them is 0, and all fit the one number of a call
 pub drawn_fits : {e : ℕ} → AmongThese check_refusals e → (1 ≤ e) × (e ≤ 18)
-unfolding every
 drawn_fits d = these_fit check_refusals 18 refl (omega arith) d
 
 -- the numbers that a call of check gives: 0 where it finishes, and 1 where it is lent too little work

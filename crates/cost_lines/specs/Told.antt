@@ -6,5 +6,5 @@ use Rattle.cost_lines.specs.declared.Costs.{Costs}
 use Rattle.lengths.specs.Told.{as_least}
 use Rattle.cost_lines.specs.Ask.{line_of}
 
-abbrev pub costs_text : Costs → List ℕ
+abbrev pub costs_text : {N : ℕ} → Costs N → List ℕ
 costs_text c = slack_line c.slack.limit (as_least c.slack.length) ++ flat_map line_of c.opened.items

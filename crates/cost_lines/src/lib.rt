@@ -5,24 +5,20 @@ ghost use Rattle.std.specs.Prelude.{◌≡◌, [], ◌∷◌, ◌+◌, ◌≤◌
 ghost use Rattle.walks.specs.Flat.{graph_of};
 ghost use Rattle.walks.specs.Graph.{closed_in, least};
 ghost use Rattle.sheet.specs.Sheet.{sheet_of};
-ghost use Rattle.sheet_required.specs.Whole.{Whole};
 ghost use Rattle.closed_marks.specs.Closing.{Markable};
 ghost use Rattle.cost_rules.specs.Cost.{cost_lines, opened_line};
 ghost use Rattle.lengths.specs.Told.{as_least};
-ghost use Rattle.cost_lines.specs.Ask.{Mapped, line_of};
+ghost use Rattle.cost_lines.specs.Ask.{line_of};
 ghost use Rattle.cost_lines.specs.Told.{costs_text};
 
 use arrayvec::ArrayVec;
 use lengths::Query;
-use rows::MISSING;
+use rows::cap::Cap;
 use rows::net::Net;
-use sheet::Header;
+use sheet_required::whole::Sheet;
 use std::fmt;
 use text_lines::{DifferenceLine, NumberLine};
-use walks::ITEMS;
-
-// No length of a sheet comes near it, so that nothing is cut off.
-const GREATEST_CAP: u32 = MISSING - 1;
+use walks::mark::Mark;
 
 // A length alone on its line, or `none`.
 #[derive(Clone, Copy, Debug, PartialEq, Eq)]
@@ -75,14 +71,14 @@ impl fmt::Display for SlackLine {
     }
 }
 
-// What closures cost: how far the length through an item is below the limit, and that length once each of them is open.
+// What closures cost: how far the length through an item is below the limit, and that length once each of them is open, of at most `N`.
 #[derive(Debug, Drop)]
-pub struct Costs {
+pub struct Costs<const N: usize> {
     pub slack: SlackLine,
-    pub opened: ArrayVec<Option<u32>, ITEMS>,
+    pub opened: ArrayVec<Option<u32>, N>,
 }
 
-impl fmt::Display for Costs {
+impl<const N: usize> fmt::Display for Costs<N> {
     ghost use Rattle.std.specs.Prelude.{Some};
     ghost use Rattle.cost_lines.specs.Told.{costs_text};
 
@@ -99,53 +95,50 @@ impl fmt::Display for Costs {
     }
 }
 
-// The least length of a walk through the item, clear of what the marks close, if there is one.
-fn length_through(header: Header, arcs: &[u32], marks: &[u8], item: usize) -> Option<u32>
-    requires { Mapped header arcs.now × (header.nodes + header.arcs ≤ length marks.now) × (item < header.nodes + header.arcs) }
-    ensures { let G = graph_of header.nodes arcs.now in
-        as_least result ≡ least G (closed_in marks.now) (item ∷ []) header.source header.target }
+// The least length of a walk of the sheet through the item, clear of what these marks close, if there is one. No length of a sheet comes near the cap, so
+// that nothing is cut off.
+fn length_through(sheet: &Sheet, marks: &[Mark], item: usize) -> Option<u32>
+    requires { let h = sheet.now.header in (h.nodes + h.arcs ≤ length marks.now) × (item < h.nodes + h.arcs) }
+    ensures { let s = sheet.now in
+        let G = graph_of s.header.nodes s.arcs.now in
+        as_least result ≡ least G (closed_in marks.now) (item ∷ []) s.header.source s.header.target }
 {
     let net = Net {
-        nodes: header.nodes,
-        arcs,
+        nodes: sheet.header.nodes,
+        arcs: sheet.arcs,
         marks,
     };
     let query = Query {
-        from: header.source,
-        to: header.target,
-        cap: GREATEST_CAP,
+        from: sheet.header.source,
+        to: sheet.header.target,
+        cap: Cap::GREATEST,
     };
-    item_length::least_through(query, &net, item)
+    item_length::least_through(&query, &net, item)
 }
 
 // The same once one of the listed closures is open, the others are shut and all else is open. The sheet's own marks do not count.
-fn length_opened(
-    header: Header,
-    arcs: &[u32],
-    item: usize,
-    list: &[usize],
-    opened: usize,
-) -> Option<u32>
-    requires { Mapped header arcs.now × (item < header.nodes + header.arcs) × Markable list.now × (opened < 576) }
-    ensures { line_of result ≡ opened_line (sheet_of header arcs.now []) item list.now opened }
+fn length_opened(sheet: &Sheet, item: usize, list: &[u32], opened: usize) -> Option<u32>
+    requires { let h = sheet.now.header in (item < h.nodes + h.arcs) × Markable list.now × (opened < 576) }
+    ensures { line_of result ≡ opened_line (sheet_of sheet.now.header sheet.now.arcs.now []) item list.now opened }
 {
     let marks = closed_marks::closing_but(list, opened);
-    length_through(header, arcs, &marks, item)
+    length_through(sheet, &marks, item)
 }
 
 // What the listed closures cost, in the list's order.
-pub fn weigh(header: Header, arcs: &[u32], marks: &[u8], item: usize, list: &[usize]) -> Costs
-    requires { Whole header arcs.now marks.now × (item < header.nodes + header.arcs) × Markable list.now × (length list.now ≤ 576) }
-    ensures { costs_text result ≡ cost_lines (sheet_of header arcs.now marks.now) item list.now }
+pub fn weigh<const N: usize>(sheet: &Sheet, item: usize, list: &[u32]) -> Costs<N>
+    requires { let h = sheet.now.header in (item < h.nodes + h.arcs) × Markable list.now × (length list.now ≤ N) }
+    ensures { let s = sheet.now in
+        costs_text result ≡ cost_lines (sheet_of s.header s.arcs.now s.marks.now) item list.now }
 {
-    let length = length_through(header, arcs, marks, item);
+    let length = length_through(sheet, sheet.marks, item);
     let slack = SlackLine {
-        limit: header.limit,
+        limit: sheet.header.limit,
         length,
     };
     let mut opened = ArrayVec::new();
     for &closure in list {
-        opened.push(length_opened(header, arcs, item, list, closure));
+        opened.push(length_opened(sheet, item, list, closure as usize));
     }
     Costs { slack, opened }
 }

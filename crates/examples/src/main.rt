@@ -4,7 +4,7 @@
 // with the service minutes of request 2.7 stand among those of the pass, the writer and the store.
 #![tactic(auto)]
 
-ghost use Rattle.std.specs.Prelude.{◌≤◌, length};
+ghost use Rattle.std.specs.Prelude.{◌≡◌, ◌≤◌, length};
 
 use sheet::Header;
 use sheet_writer::Draft;
@@ -12,7 +12,9 @@ use std::io;
 use store::{Putting, Store};
 use store_slot::Slot;
 use varint::{Bytes, Refusal};
-use walks::{ARC_NUMBERS, ITEMS, NODES};
+use walks::arc::Arc;
+use walks::mark::Mark;
+use walks::{ARC_NUMBERS, ARCS, ITEMS, NODES};
 use work::WORK_NUMBERS;
 
 // A few more work numbers than an operation asks for, and a slip longer than asked for.
@@ -632,28 +634,36 @@ fn minutes_of(weight: u32, head: u32, services: &[u32]) -> u32 {
     weight
 }
 
-// Makes the weights of legs minutes again; three numbers stand for each leg.
-fn give_back(legs: &mut [u32], services: &[u32]) {
-    for leg in legs.chunks_exact_mut(3) {
-        leg[2] = minutes_of(leg[2], leg[1], services);
+// Three numbers for each arc, with its minutes where its weight was.
+fn legs_of(arcs: &[Arc; ARCS], services: &[u32]) -> [u32; ARC_NUMBERS]
+    ensures { length result ≡ 1536 }
+{
+    let mut legs = [0u32; ARC_NUMBERS];
+    for i in 0..ARCS {
+        let arc = arcs[i];
+        legs[i * 3] = arc.tail;
+        legs[i * 3 + 1] = arc.head;
+        legs[i * 3 + 2] = minutes_of(arc.weight, arc.head, services);
     }
+    legs
 }
 
 // Prints a line: the name, and what the reader stores of a sheet, written again into a slice of the sheet's length.
 fn show_again(rt: &impl Print, name: &[u8], sheet: &[u8]) -> io::Result<()>
     requires { length sheet.now ≤ 40 }
 {
-    let mut legs = [0u32; ARC_NUMBERS];
-    let mut marks = [0u8; ITEMS];
+    let mut arcs = [Arc::ZERO; ARCS];
+    let mut marks = [Mark::OPEN; ITEMS];
     let mut services = [0u32; NODES];
-    let header = match sheet_reader::read_page(sheet, &mut legs, &mut marks, &mut services) {
+    let header = match sheet_reader::read_page(sheet, &mut arcs, &mut marks, &mut services) {
         Ok(header) => header,
         Err(_) => return Ok(()),
     };
     let numbers = 3 * header.arcs;
     let items = header.nodes + header.arcs;
     let nodes = header.nodes;
-    give_back(&mut legs, &services);
+    let legs = legs_of(&arcs, &services);
+    let marks = marks.map(u8::from);
     show_write(
         rt,
         name,
@@ -889,18 +899,6 @@ fn unended_numbers(rt: &impl Print) -> io::Result<()> {
     show_number(rt, b"\x80\x80\x80\xFF\x00\x7F")
 }
 
-// Whether two stores agree in every number, those past their counts included.
-fn is_same_store(one: &Store, other: &Store) -> bool {
-    one.count == other.count
-        && one.nodes == other.nodes
-        && one.arcs == other.arcs
-        && one.source == other.source
-        && one.target == other.target
-        && one.legs == other.legs
-        && one.services == other.services
-        && one.slots == other.slots
-}
-
 // Prints the items.
 fn print_items(rt: &impl Print, items: &[u32]) -> io::Result<()> {
     for &item in items {
@@ -952,7 +950,7 @@ fn show_putting(rt: &impl Print, before: &Store, answer: &Putting) -> io::Result
         Err(why) => show_refusal(rt, why)?,
     }
     show_held(rt, &answer.store)?;
-    if is_same_store(before, &answer.store) {
+    if *before == answer.store {
         rt.write_all(b"; store unchanged")?;
     }
     Ok(())

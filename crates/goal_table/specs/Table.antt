@@ -93,12 +93,6 @@ abbrev pub FillsTable : ℕ → ℕ → List ℕ → List ℕ → Type 0
 FillsTable cap k work after =
     (N : Net) (a : ℕ) (goals : List ℕ) → length goals ≡ k → Filled N cap a goals 0 work → Filled N cap a goals (2 ^ k) after
 
--- r is the least length over k goals to v, by a table that is done
-abbrev pub ReachedAll : ℕ → ℕ → ℕ → List ℕ → ℕ → Type 0
-ReachedAll cap k v work r =
-    (N : Net) (a : ℕ) (goals : List ℕ) → length goals ≡ k → v < N.nodes → Filled N cap a goals (2 ^ k) work
-    → r ≡ held cap (least (graph N) (closed N) goals a v)
-
 -- room for the table, at most 8 goals, each entered at a node that a row has
 pub record TableFits (k : ℕ) (work : List ℕ) : Type 0 where
   pub long : 3072 ≤ length work

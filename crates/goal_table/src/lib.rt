@@ -3,10 +3,11 @@
 
 ghost use Rattle.std.specs.Prelude.{◌≡◌, true, List, ℕ, ◌+◌, ◌-◌, ◌*◌, ◌^◌, ◌≤◌, ◌<◌, length, get_or, IfSome, IfNone};
 ghost use Rattle.walks.specs.Lengths.{some};
-ghost use Rattle.rows.specs.Held.{missing, held};
+ghost use Rattle.rows.specs.Held.{held};
 ghost use Rattle.goal_table.specs.Sets.{has, chosen, FirstOff};
 ghost use Rattle.goal_table.specs.Table.{Bettered, ReachedBy, Puts, SetFits, TableOnly};
 
+use rows::cap::Cap;
 use rows::{ENTRIES, MISSING, ROW_LENGTH};
 use walks::GOALS;
 
@@ -74,7 +75,7 @@ impl GoalSet {
     }
 }
 
-// A length as the rows and the table hold it.
+// A length as the rows and the table hold it: a number, and MISSING for none, so that `better` adds two of them with no test in the loop's way.
 fn capped(sum: u64, cap: u32) -> u32
     ensures { result ≡ held cap (some sum) }
 {
@@ -99,23 +100,24 @@ fn better(work: &[u32], set: GoalSet, i: usize, node: usize, best: u64) -> u64
     best
 }
 
-// The least length from the source to `node` that meets the goals of the set, which holds at least one.
-pub fn reach(work: &[u32], set: GoalSet, node: usize, cap: u32) -> u32
-    requires { (3072 ≤ length work.now) × (0 < set.bits) × (set.bits < 256) × (node < 64) × (cap < missing) }
+// The least length from the source to `node` that meets the goals of the set, which holds at least one, as the table holds it.
+pub fn reach(work: &[u32], set: GoalSet, node: usize, cap: Cap) -> u32
+    requires { (3072 ≤ length work.now) × (0 < set.bits) × (set.bits < 256) × (node < 64) }
     ensures { ReachedBy cap set.bits node work.now result }
 {
+    let most = cap.length();
     let mut best = MISSING as u64;
     let mut rest = set;
     while let Some(i) = rest.take_first() {
         best = better(work, set, i, node, best);
     }
-    capped(best, cap)
+    capped(best, most)
 }
 
-// Fills the table's entry for goal `i` of the set as the last one. A set of this goal alone is begun from the source's row, a larger one from the set
-// without the goal.
-pub fn put(work: &mut [u32], set: GoalSet, i: usize, cap: u32)
-    requires { SetFits set.bits work.old × (has set.bits i ≡ true) × (cap < missing) }
+// Fills the table's entry for goal `i` of the set as the last one, MISSING for none. A set of this goal alone is begun from the source's row, a larger one
+// from the set without the goal.
+pub fn put(work: &mut [u32], set: GoalSet, i: usize, cap: Cap)
+    requires { SetFits set.bits work.old × (has set.bits i ≡ true) }
     ensures goal_done { Puts cap set.bits i work.old work.new }
     ensures outside_table_unchanged { TableOnly work.old work.new }
 {
@@ -126,5 +128,5 @@ pub fn put(work: &mut [u32], set: GoalSet, i: usize, cap: u32)
     } else {
         reach(work, rest, at, cap)
     };
-    work[set.entry(i)] = goals::sum(way, work[OWN_LENGTHS + i], cap);
+    work[set.entry(i)] = goals::sum(way, work[OWN_LENGTHS + i], cap).unwrap_or(MISSING);
 }

@@ -7,43 +7,40 @@ use native.Mathlib.Omega.{arith}
 use lib.ListN.{length, get_or, set}
 use lib.Dec.{eqb}
 use Rattle.walks.specs.Flat.{graph_of}
+use Rattle.walks.specs.declared.arc.Arc.{Arc}
 use Rattle.walks.specs.Goals.{exit_of}
 use Rattle.walks.specs.Graph.{Graph, item_count, closed_in, least, fits}
 use Rattle.rows.specs.Held.{held}
-use Rattle.rows.specs.Net.{net_of, arc_count}
+use Rattle.rows.specs.Net.{net_of}
 use Rattle.goal_table.specs.Table.{Rowed}
-use Rattle.walks.proofs.FlatLaws.{arcs_count}
 use Rattle.reason_list.specs.Reasons.{reasons}
 use Rattle.reason_list.proofs.ReasonLaws.{reasons_alike}
 use Rattle.greedy_turn.specs.Turns.{Task, map, source, task_items, Setting, State, Turned}
 use Rattle.lists.specs.Lists.{Put}
 use Rattle.greedy.proofs.ListingLaws.{Listing, begun, passed_on, left_open, put_down, ended}
 
-pub items_are : (n : ℕ) (xs : List ℕ) → item_count (graph_of n xs) ≡ n + arc_count xs
-items_are n xs = ap (n +◌) (arcs_count xs)
-
 -- what holds whenever the loop takes the next item
-pub record Going (T : Task) (marks₀ list₀ : List ℕ) (i : ℕ) (marks list : List ℕ) (m : ℕ) (packed : List ℕ) (c : ℕ) (work : List ℕ) : Type 0 where
+pub record Going (T : Task) (marks₀ list₀ : List ℕ) (i : ℕ) (marks list : List ℕ) (m : ℕ) (ps : List Arc) (ks : List ℕ) (c : ℕ) (work : List ℕ) : Type 0 where
   pub setting : Setting T
-  pub state : State T marks packed c work
+  pub state : State T marks ps ks c work
   pub listing : Listing (map T) (source T) T.to T.cap T.goals marks₀ list₀ i marks list m
 
-pub going_begun : {T : Task} {marks packed : List ℕ} {c : ℕ} {work : List ℕ} (list : List ℕ) → Setting T → State T marks packed c work
-    → Going T marks list 0 marks list 0 packed c work
+pub going_begun : {T : Task} {marks : List ℕ} {ps : List Arc} {ks : List ℕ} {c : ℕ} {work : List ℕ} (list : List ℕ) → Setting T → State T marks ps ks c work
+    → Going T marks list 0 marks list 0 ps ks c work
 going_begun {T} {marks} list S A = record {
   setting = S;
   state = A;
   listing = begun (map T) (source T) T.to T.cap T.goals marks list A.blocked;
 }
 
-module _ {T : Task} {marks₀ list₀ : List ℕ} {i : ℕ} {marks list : List ℕ} {m : ℕ} {packed : List ℕ} {c : ℕ} {work : List ℕ}
-    (W : Going T marks₀ list₀ i marks list m packed c work) where
+module _ {T : Task} {marks₀ list₀ : List ℕ} {i : ℕ} {marks list : List ℕ} {m : ℕ} {ps : List Arc} {ks : List ℕ} {c : ℕ} {work : List ℕ}
+    (W : Going T marks₀ list₀ i marks list m ps ks c work) where
   below : i < task_items T → i < item_count (map T)
-  below h = omega (arith, items_are T.nodes T.arcs)
+  below h = omega arith
 
   -- the item is not listed, for it is open or stays so
-  pub going_passed : {marks' : List ℕ} {packed' : List ℕ} {c' : ℕ} {work' : List ℕ} → i < task_items T → Turned T marks i marks' false
-      → State T marks' packed' c' work' → Going T marks₀ list₀ (i + 1) marks' list m packed' c' work'
+  pub going_passed : {marks' : List ℕ} {ps' : List Arc} {ks' : List ℕ} {c' : ℕ} {work' : List ℕ} → i < task_items T → Turned T marks i marks' false
+      → State T marks' ps' ks' c' work' → Going T marks₀ list₀ (i + 1) marks' list m ps' ks' c' work'
   going_passed {marks'} h R A = record { setting = W.setting; state = A; listing = go (closed_in marks i) refl }
     where
       go : (b : Bool) → closed_in marks i ≡ b → Listing (map T) (source T) T.to T.cap T.goals marks₀ list₀ (i + 1) marks' list m
@@ -51,22 +48,22 @@ module _ {T : Task} {marks₀ list₀ : List ℕ} {i : ℕ} {marks list : List �
       go true p = let t = R.tried p in rw t.1 (left_open (map T) (source T) T.to T.cap T.goals marks₀ list₀ (below h) W.listing p t.0)
 
   -- the item is listed
-  pub going_listed : {marks' : List ℕ} {packed' : List ℕ} {c' : ℕ} {work' : List ℕ} → i < task_items T → task_items T ≤ length list₀
-      → Turned T marks i marks' true → State T marks' packed' c' work' → Going T marks₀ list₀ (i + 1) marks' (set list m i) (m + 1) packed' c' work'
+  pub going_listed : {marks' : List ℕ} {ps' : List Arc} {ks' : List ℕ} {c' : ℕ} {work' : List ℕ} → i < task_items T → task_items T ≤ length list₀
+      → Turned T marks i marks' true → State T marks' ps' ks' c' work' → Going T marks₀ list₀ (i + 1) marks' (set list m i) (m + 1) ps' ks' c' work'
   going_listed {marks'} h room R A = record { setting = W.setting; state = A; listing = go (closed_in marks i) refl }
     where
       go : (b : Bool) → closed_in marks i ≡ b → Listing (map T) (source T) T.to T.cap T.goals marks₀ list₀ (i + 1) marks' (set list m i) (m + 1)
       go false p = absurd (true≢false (R.passed p).0)
       go true p =
           let t = R.tried p in
-          rw t.1 (put_down (map T) (source T) T.to T.cap T.goals marks₀ list₀ (below h) W.listing p t.0 (omega (arith, items_are T.nodes T.arcs)))
+          rw t.1 (put_down (map T) (source T) T.to T.cap T.goals marks₀ list₀ (below h) W.listing p t.0 (omega arith))
 
   pub going_room : task_items T ≤ length list₀ → i < task_items T → length list ≡ length list₀ → m < length list
   going_room h k l = omega (arith, W.listing.few)
 
   pub going_done : i ≡ task_items T → Put (reasons (map T) (source T) T.to T.cap T.goals marks₀) list₀ list m
   going_done q =
-      let w = ended (map T) (source T) T.to T.cap T.goals marks₀ list₀ (q ∙ sym (items_are T.nodes T.arcs)) W.listing in
+      let w = ended (map T) (source T) T.to T.cap T.goals marks₀ list₀ q W.listing in
       (w.1, w.0)
 
 -- the marks in an array of their own close the same items
@@ -81,7 +78,8 @@ module _ (marks r : List ℕ) (e : (j : ℕ) → get_or r j 0 ≡ get_or marks j
   copied_reasons G s t k goals = reasons_alike G s t k goals r marks closed_alike
 
   -- and the rows in the work are the same
-  pub copied_rowed : (n : ℕ) (xs : List ℕ) (cap a : ℕ) (goals work : List ℕ) → Rowed (net_of n xs marks) cap a goals work → Rowed (net_of n xs r) cap a goals work
+  pub copied_rowed : (n : ℕ) (xs : List Arc) (cap a : ℕ) (goals work : List ℕ) → Rowed (net_of n xs marks) cap a goals work
+      → Rowed (net_of n xs r) cap a goals work
   copied_rowed n xs cap a goals work R = record {
     first = λ v h. R.first v h ∙ alike a v;
     rows = λ i h v k. R.rows i h v k ∙ alike (exit_of (graph_of n xs) (get_or goals i 0)) v;

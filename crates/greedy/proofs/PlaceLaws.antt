@@ -4,6 +4,7 @@ use mathlib.Core.Path.{◌≡◌, refl}
 use mathlib.Core.List.{List}
 use lib.ListN.{length, take}
 use Rattle.walks.specs.Flat.{graph_of}
+use Rattle.walks.specs.declared.arc.Arc.{Arc}
 use Rattle.rows.specs.Held.{missing}
 use Rattle.rows.specs.Net.{net_of, Proper}
 use Rattle.rows.specs.Rows.{scratch_numbers}
@@ -13,9 +14,9 @@ use Rattle.lengths.proofs.PartLaws.{rows_of, rowed_kept}
 use Rattle.greedy_turn.specs.Turns.{Setting, State}
 use Rattle.greedy.specs.Listing.{Stuck}
 
-module _ {n : ℕ} {xs marks : List ℕ} {from to cap : ℕ} {goals ss : List ℕ} (p : Proper (net_of n xs marks))
+module _ {n : ℕ} {xs : List Arc} {marks : List ℕ} {from to cap : ℕ} {goals ss : List ℕ} (p : Proper (net_of n xs marks))
     (g : GoalsFit (net_of n xs marks) goals) (S : StartsAre (graph_of n xs) from goals ss) (k : length ss ≡ length goals + 1) where
-  pub setting_of : length xs ≤ 1536 → to < n → cap < missing → Setting (record { nodes = n; arcs = xs; to = to; cap = cap; goals = goals; starts = ss })
+  pub setting_of : length xs ≤ 512 → to < n → cap < missing → Setting (record { nodes = n; arcs = xs; to = to; cap = cap; goals = goals; starts = ss })
   setting_of short t small = record {
     small = small;
     few = p.few;
@@ -29,9 +30,9 @@ module _ {n : ℕ} {xs marks : List ℕ} {from to cap : ℕ} {goals ss : List �
     counted = k;
   }
 
-  pub state_of : {packed : List ℕ} {c : ℕ} {mid work : List ℕ} → Linked (net_of n xs marks) c packed → length work ≡ scratch_numbers
+  pub state_of : {ps : List Arc} {ks : List ℕ} {c : ℕ} {mid work : List ℕ} → Linked (net_of n xs marks) c ps ks → length work ≡ scratch_numbers
       → Noted (net_of n xs marks) cap goals work → take 576 work ≡ take 576 mid → Stuck (net_of n xs marks) from to cap goals mid
-      → State (record { nodes = n; arcs = xs; to = to; cap = cap; goals = goals; starts = ss }) marks packed c work
+      → State (record { nodes = n; arcs = xs; to = to; cap = cap; goals = goals; starts = ss }) marks ps ks c work
   state_of {work = work} L l N f B = record {
     marked = p.marked;
     links = L;

@@ -9,10 +9,12 @@ use native.Mathlib.Omega.{arith}
 use native.Mathlib.Decide.{ℕ_discrete}
 use lib.ListN.{length, get_or, take, set, length-set}
 use lib.Seq.{take-take, set-set, set-get_or}
-use lib.Dec.{leb}
+use lib.Dec.{eqb, leb}
+use Rattle.std.proofs.lemmas.Grind.{get_or_default_zero}
 use borrow.Author.Tests.{eqb-true}
 use Rattle.lists.specs.Lists.{member}
 use Rattle.lists.proofs.MemberLaws.{member_place, member_away}
+use Rattle.walks.specs.declared.arc.Arc.{Arc}
 use Rattle.walks.specs.Graph.{Graph, closed_in, least}
 use Rattle.walks.specs.Goals.{entry_of, exit_of, own_of}
 use Rattle.walks.proofs.OpenedLaws.{open_other}
@@ -117,8 +119,8 @@ noted_kept N cap goals work after eight e E = record {
 }
 
 -- the marks with the item open, as the code has them
-pub opening : {T : Task} → Setting T → (old : List ℕ) {i : ℕ} {marks ys : List ℕ} → marks ≡ set old i 0 → task_items T ≤ length marks → i < task_items T
-    → Packed (net T marks) ys → Opened T.nodes T.arcs old i marks ys T.starts
+pub opening : {T : Task} → Setting T → (old : List ℕ) {i : ℕ} {marks : List ℕ} {ys : List Arc} → marks ≡ set old i 0
+    → task_items T ≤ length marks → i < task_items T → Packed (net T marks) ys → Opened T.nodes T.arcs old i marks ys T.starts
 opening S old {i} e m h P = record {
   proper = set_proper S old (omega (arith, ap length e, length-set old i 0));
   below = h;
@@ -128,7 +130,7 @@ opening S old {i} e m h P = record {
 }
 
 -- The two ways to the answer: nothing that matters changed, and the table was asked.
-module _ {T : Task} (S : Setting T) {old : List ℕ} {i : ℕ} {marks ys : List ℕ} (O : Opened T.nodes T.arcs old i marks ys T.starts) {work : List ℕ}
+module _ {T : Task} (S : Setting T) {old : List ℕ} {i : ℕ} {marks : List ℕ} {ys : List Arc} (O : Opened T.nodes T.arcs old i marks ys T.starts) {work : List ℕ}
     (W : Ready T old work) {mid : List ℕ} {kept : ℕ} (I : ItemOpened T.nodes T.arcs i T.cap marks ys T.starts work mid kept) {n : ℕ}
     (count : n ≡ length T.starts) where
   rows : RowsFor T marks mid
@@ -171,6 +173,10 @@ module _ {T : Task} (S : Setting T) {old : List ℕ} {i : ℕ} {marks ys : List 
         (λ z. (f q).same j (omega arith) z v (omega arith) ∙ I.saves.same j h z v (omega arith)) (bit j) ∙ W.rows j h v hv;
   }
 
+-- what a mark that is read tells
+pub mark_read : (marks : List ℕ) (i m : ℕ) {b : Bool} → m ≡ get_or marks i m → b ≡ eqb m 2 → i < length marks → closed_in marks i ≡ b
+mark_read marks i m e q h = ap (λ (m : ℕ). eqb m 2) (sym (get_or_default_zero marks i m h) ∙ sym e) ∙ sym q
+
 -- an item that was closed is closed again
 pub closed_again : (marks : List ℕ) (i : ℕ) → closed_in marks i ≡ true → set (set marks i 0) i 2 ≡ marks
 closed_again marks i q = set-set marks i 0 2 ∙ ap (set marks i) (sym (eqb-true (get_or marks i 0) 2 q)) ∙ set-get_or marks i 0
@@ -187,17 +193,18 @@ module _ {T : Task} {marks : List ℕ} {i : ℕ} where
     pub turn_listed : {after : List ℕ} → TurnJudged T marks (set marks i 0) after false → Turned T marks i (set (set marks i 0) i 2) true
     turn_listed J = record { passed = λ q. absurd (true≢false (sym p ∙ q)); tried = λ _. (J.answer, closed_again marks i p) }
 
-module _ {T : Task} {marks packed : List ℕ} {c : ℕ} {work : List ℕ} (S : Setting T) (A : State T marks packed c work) (i : ℕ) where
+module _ {T : Task} {marks : List ℕ} {ps : List Arc} {ks : List ℕ} {c : ℕ} {work : List ℕ} (S : Setting T) (A : State T marks ps ks c work) (i : ℕ) where
   pub entries_below : (j : ℕ) → j < length T.goals → get_or work (576 + j) 0 < 64
   entries_below j h =
       let e = entry_below (net T marks) (get_or T.goals j 0) (set_proper S marks A.marked) (S.below j h) in
       omega (arith, A.ready.noted.entries j h, S.few)
 
-  pub in_turn : {packed' : List ℕ} {c' : ℕ} → i < task_items T → Linked (net T (set marks i 0)) c' packed' → InTurn T i (set marks i 0) packed' c' work
+  pub in_turn : {ps' : List Arc} {ks' : List ℕ} {c' : ℕ} → i < task_items T → Linked (net T (set marks i 0)) c' ps' ks'
+      → InTurn T i (set marks i 0) ps' ks' c' work
   in_turn h L = record { below = h; marked = simp length-set A.marked; links = L; long = A.long; entered = entries_below }
 
-  pub state_opened : {packed' work' : List ℕ} {c' : ℕ} → length work' ≡ length work → Linked (net T (set marks i 0)) c' packed'
-      → TurnJudged T marks (set marks i 0) work' true → State T (set marks i 0) packed' c' work'
+  pub state_opened : {ps' : List Arc} {ks' work' : List ℕ} {c' : ℕ} → length work' ≡ length work → Linked (net T (set marks i 0)) c' ps' ks'
+      → TurnJudged T marks (set marks i 0) work' true → State T (set marks i 0) ps' ks' c' work'
   state_opened w L J = record {
     marked = omega (arith, A.marked, length-set marks i 0);
     links = L;
@@ -206,11 +213,11 @@ module _ {T : Task} {marks packed : List ℕ} {c : ℕ} {work : List ℕ} (S : S
     blocked = J.answer;
   }
 
-  pub state_listed : {packed' mid work' : List ℕ} {c' : ℕ} → closed_in marks i ≡ true → length work' ≡ length work
-      → Linked (net T (set (set marks i 0) i 2)) c' packed' → TurnJudged T marks (set marks i 0) mid false
+  pub state_listed : {ps' : List Arc} {ks' mid work' : List ℕ} {c' : ℕ} → closed_in marks i ≡ true → length work' ≡ length work
+      → Linked (net T (set (set marks i 0) i 2)) c' ps' ks' → TurnJudged T marks (set marks i 0) mid false
       → Noted (net T (set (set marks i 0) i 2)) T.cap T.goals work' → take 576 work' ≡ take 576 mid
-      → State T (set (set marks i 0) i 2) packed' c' work'
-  state_listed {packed'} {mid} {work'} p w L J N e = record {
+      → State T (set (set marks i 0) i 2) ps' ks' c' work'
+  state_listed {mid = mid} {work' = work'} p w L J N e = record {
     marked = omega (arith, A.marked, length-set marks i 0, length-set (set marks i 0) i 2);
     links = L;
     long = w ∙ A.long;

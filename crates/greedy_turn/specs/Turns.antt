@@ -2,6 +2,7 @@
 use Rattle.std.specs.Prelude.{ℕ, ◌+◌, ◌≤◌, ◌<◌, ◌≡◌, Bool, true, false, not, List, length, get_or, set, take}
 use Rattle.lists.specs.Lists.{Distinct, pick}
 use Rattle.walks.specs.Flat.{graph_of}
+use Rattle.walks.specs.declared.arc.Arc.{Arc}
 use Rattle.walks.specs.Graph.{Graph, closed_in, fits}
 use Rattle.rows.specs.Held.{missing}
 use Rattle.rows.specs.Net.{Net, net_of, graph, closed, arc_count, Joins}
@@ -14,7 +15,7 @@ use Rattle.greedy_turn.specs.declared.Task as code
 -- What stays: the nodes and arcs, the target, the limit, the goals, and the starts of the rows, the first of which is the source.
 pub record Task : Type 0 where
   pub nodes : ℕ
-  pub arcs : List ℕ
+  pub arcs : List Arc
   pub to : ℕ
   pub cap : ℕ
   pub goals : List ℕ
@@ -47,7 +48,7 @@ task_items T = T.nodes + arc_count T.arcs
 pub record Setting (T : Task) : Type 0 where
   pub small : T.cap < missing
   pub few : T.nodes ≤ 64
-  pub short : length T.arcs ≤ 1536
+  pub short : length T.arcs ≤ 512
   pub joins : Joins T.nodes T.arcs
   pub target : T.to < T.nodes
   pub eight : length T.goals ≤ 8
@@ -79,10 +80,10 @@ pub record Ready (T : Task) (marks work : List ℕ) : Type 0 where
   pub noted : Noted (net T marks) T.cap T.goals work
 
 -- while item i is open: the open arcs are linked, and the work tells where each goal is entered
-pub record InTurn (T : Task) (i : ℕ) (marks packed : List ℕ) (c : ℕ) (work : List ℕ) : Type 0 where
+pub record InTurn (T : Task) (i : ℕ) (marks : List ℕ) (arcs : List Arc) (chains : List ℕ) (c : ℕ) (work : List ℕ) : Type 0 where
   pub below : i < task_items T
   pub marked : task_items T ≤ length marks
-  pub links : Linked (net T marks) c packed
+  pub links : Linked (net T marks) c arcs chains
   pub long : length work ≡ scratch_numbers
   pub entered : Entered (length T.goals) work
 
@@ -97,9 +98,9 @@ abbrev pub Judges : Task → ℕ → List ℕ → List ℕ → List ℕ → Bool
 Judges T i marks work after r = (old : List ℕ) → marks ≡ set old i 0 → Ready T old work → fits_at T old ≡ false → TurnJudged T old marks after r
 
 -- what holds whenever the next item is taken: the open arcs are linked, the work is ready, and no walk fits
-pub record State (T : Task) (marks packed : List ℕ) (c : ℕ) (work : List ℕ) : Type 0 where
+pub record State (T : Task) (marks : List ℕ) (arcs : List Arc) (chains : List ℕ) (c : ℕ) (work : List ℕ) : Type 0 where
   pub marked : task_items T ≤ length marks
-  pub links : Linked (net T marks) c packed
+  pub links : Linked (net T marks) c arcs chains
   pub long : length work ≡ scratch_numbers
   pub ready : Ready T marks work
   pub blocked : fits_at T marks ≡ false

@@ -1,3 +1,1 @@
 pub mod FitLaws
-pub mod RowsLaws
-pub mod AskedLaws

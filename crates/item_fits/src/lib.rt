@@ -3,79 +3,101 @@
 #![tactic(auto)]
 
 ghost use Rattle.std.specs.Prelude.{◌≡◌, [], ◌∷◌, ◌+◌, ◌≤◌, ◌<◌, length};
+ghost use Rattle.std.proofs.Props.{props};
 ghost use Rattle.walks.specs.Flat.{graph_of};
-ghost use Rattle.walks.specs.Graph.{closed_in, fits};
-ghost use Rattle.rows.specs.Net.{net_of};
-ghost use Rattle.goal_table.specs.Table.{Rowed};
+ghost use Rattle.walks.specs.Graph.{closed_in, least as least_of, fits};
+ghost use Rattle.rows.specs.Held.{at_most};
+ghost use Rattle.rows.specs.Net.{graph, closed};
+ghost use Rattle.goals.specs.Told.{as_least};
+ghost use Rattle.goal_table.specs.Table.{GoalsFit, Rowed};
 ghost use Rattle.pass_rules.specs.Verdict.{fits_sheet};
 ghost use Rattle.sheet.specs.Sheet.{sheet_of};
-ghost use Rattle.sheet_required.specs.Whole.{Whole};
 ghost use Rattle.item_fits.specs.Rows.{Rows};
-ghost use Rattle.item_fits.specs.Asked.{Sought};
 
 use lengths::Query;
 use rows::ROW_LENGTH;
+use rows::cap::Cap;
 use rows::net::Net;
-use sheet::Header;
+use sheet_required::whole::Sheet;
 
-// The numbers of the two rows by which a sheet is judged.
-pub const TWO_ROWS: usize = 2 * ROW_LENGTH;
-
-// Fills the row from the source and behind it the row to the target.
-pub fn fill_end_rows(header: Header, arcs: &[u32], marks: &[u8], rows: &mut [u32])
-    requires { Whole header arcs.now marks.now × (length rows.old ≡ 128) }
-    ensures { Rows header arcs.now marks.now rows.new }
+// What a sheet asks of a walk: from its source to its target, within its limit.
+pub fn query_of(sheet: &Sheet) -> Query
+    ensures { let h = sheet.now.header in result ≡ record { from = h.source; to = h.target; cap = h.limit } }
 {
-    let net = Net {
-        nodes: header.nodes,
-        arcs,
-        marks,
-    };
-    row_fill::row_from(&net, header.source, &mut rows[..ROW_LENGTH], header.limit);
-    row_fill::row_to(&net, header.target, &mut rows[ROW_LENGTH..], header.limit);
+    Query {
+        from: sheet.header.source,
+        to: sheet.header.target,
+        cap: Cap::new(sheet.header.limit),
+    }
 }
 
-// Whether some walk within the limit, clear of the forbidden items, meets the item: to its entry, over it, and on from its exit.
-pub fn fits_item(header: Header, arcs: &[u32], marks: &[u8], rows: &[u32], item: usize) -> bool
-    requires { Rows header arcs.now marks.now rows.now × (item < header.nodes + header.arcs) }
-    ensures { result ≡ fits_sheet (sheet_of header arcs.now marks.now) (item ∷ []) }
-{
-    let net = Net {
-        nodes: header.nodes,
-        arcs,
-        marks,
-    };
-    let entry = goals::entry(&net, item);
-    let exit = goals::exit(&net, item);
-    let own = goals::own(&net, item, header.limit);
-    let past = goals::sum(rows[entry], own, header.limit);
-    goals::sum(past, rows[ROW_LENGTH + exit], header.limit) <= header.limit
+// The two rows by which a sheet is judged: the least lengths from its source to each node, and from each node to its target.
+#[derive(Clone, Copy, Debug, PartialEq, Eq)]
+pub struct EndRows<'a> {
+    pub sheet: Sheet<'a>,
+    there: [u32; ROW_LENGTH],
+    back: [u32; ROW_LENGTH],
+    ghost filled: { Rows sheet.header sheet.arcs.now sheet.marks.now there back } by { Prim.hlevel props },
 }
 
-// Whether some walk within the limit, clear of the items that the marks close, meets all goals. The rows for the goals are left in the scratch.
-pub fn fits_goals(
-    header: Header,
-    arcs: &[u32],
-    marks: &[u8],
-    goals: &[usize],
-    scratch: &mut [u32],
-) -> bool
-    requires { Sought header arcs.now marks.now goals.now × (3072 ≤ length scratch.old) }
-    ensures tells_whether_fits { let G = graph_of header.nodes arcs.now in
-        let closed = closed_in marks.now in
-        result ≡ fits G header.source header.target header.limit closed goals.now }
-    ensures rows_filled { let N = net_of header.nodes arcs.now marks.now in
-        Rowed N header.limit header.source goals.now scratch.new }
+impl<'a> EndRows<'a> {
+    // The rows of a sheet.
+    pub fn of(sheet: &Sheet<'a>) -> EndRows<'a>
+        ensures { result.sheet ≡ sheet.now }
+    {
+        let net = sheet.net();
+        let query = query_of(sheet);
+        let mut there = [0u32; ROW_LENGTH];
+        let mut back = [0u32; ROW_LENGTH];
+        row_fill::row_from(&net, query.from, &mut there, query.cap);
+        row_fill::row_to(&net, query.to, &mut back, query.cap);
+        EndRows {
+            sheet: *sheet,
+            there,
+            back,
+        }
+    }
+
+    // Whether any walk clear of the forbidden items keeps to the limit.
+    pub fn fits_some(&self) -> bool
+        ensures { let s = self.now.sheet in result ≡ fits_sheet (sheet_of s.header s.arcs.now s.marks.now) [] }
+    {
+        let header = self.sheet.header;
+        self.there[header.target] <= header.limit
+    }
+
+    // The least length of a walk clear of the forbidden items that meets the item, where it is within the limit: to the item's entry, over it, and on from
+    // its exit.
+    fn least_through(&self, item: usize) -> Option<u32>
+        requires { let h = self.now.sheet.header in item < h.nodes + h.arcs }
+        ensures { let s = self.now.sheet in
+            let h = s.header in
+            as_least result ≡ at_most h.limit (least_of (graph_of h.nodes s.arcs.now) (closed_in s.marks.now) (item ∷ []) h.source h.target) }
+    {
+        let sheet = &self.sheet;
+        let nodes = sheet.header.nodes;
+        let cap = query_of(sheet).cap;
+        let own = goals::own(&sheet.net(), item, cap.length())?;
+        let past = goals::sum(self.there[goals::entry(nodes, sheet.arcs, item)], own, cap)?;
+        goals::sum(past, self.back[goals::exit(nodes, sheet.arcs, item)], cap)
+    }
+
+    // Whether some walk within the limit, clear of the forbidden items, meets the item.
+    pub fn fits_item(&self, item: usize) -> bool
+        requires { let h = self.now.sheet.header in item < h.nodes + h.arcs }
+        ensures { let s = self.now.sheet in result ≡ fits_sheet (sheet_of s.header s.arcs.now s.marks.now) (item ∷ []) }
+    {
+        self.least_through(item).is_some()
+    }
+}
+
+// Whether some walk within the query's cap, clear of the items that the marks close, meets all goals. The rows for the goals are left in the scratch.
+pub fn fits_goals(query: &Query, net: &Net, goals: &[u32], scratch: &mut [u32]) -> bool
+    requires few_arcs { length net.now.arcs ≤ 512 }
+    requires goals_and_scratch_fit { let q = query.now in
+        GoalsFit net.now goals.now × (3072 ≤ length scratch.old) × (q.from < net.now.nodes) × (q.to < net.now.nodes) }
+    ensures tells_whether_fits { let q = query.now in result ≡ fits (graph net.now) q.from q.to q.cap (closed net.now) goals.now }
+    ensures rows_filled { Rowed net.now query.now.cap query.now.from goals.now scratch.new }
 {
-    let net = Net {
-        nodes: header.nodes,
-        arcs,
-        marks,
-    };
-    let query = Query {
-        from: header.source,
-        to: header.target,
-        cap: header.limit,
-    };
-    lengths::least(query, &net, goals, scratch).is_some()
+    lengths::least(query, net, goals, scratch).is_some()
 }

@@ -1,23 +1,20 @@
 -- The rows and notes with which the table is begun, and the whole asked for. Assumes nothing.
 use Prim.Native.Nat.{ℕ, zero, suc, ◌+◌, ◌*◌, ◌-◌, ◌^◌, ◌≤◌, ◌<◌}
 use mathlib.Core.Path.{◌≡◌, refl, sym, ap, ◌∙◌}
-use mathlib.Core.Bool.{Bool, true, false}
 use mathlib.Core.List.{List, []}
 use native.Mathlib.Omega.{arith}
 use native.Mathlib.Nat.{one-le-pow}
 use lib.ListN.{length, get_or, set, take, drop, length-set}
 use lib.Seq.{get_or-set_same, get_or-set_other, get_or-take, take-set-le, drop-set-lt, length-take-le}
-use lib.Dec.{leb}
 use borrow.Author.Count.{below_more}
-use borrow.Author.Tests.{leb-true}
 use native.Mathlib.Decide.{ℕ_discrete}
 use mathlib.Core.Logic.{◌≢◌}
 use Rattle.rows.proofs.ArcLaws.{entry_below}
-use Rattle.rows.specs.Held.{held, missing, at_most, kept, code}
+use Rattle.rows.specs.Held.{held}
 use Rattle.rows.specs.Net.{Net, graph, closed, Proper, Packed}
 use Rattle.rows.specs.Rows.{RowsAre, StartsOf, StartsFit}
+use Rattle.walks.specs.declared.arc.Arc.{Arc}
 use Rattle.walks.specs.Graph.{Graph, least}
-use Rattle.walks.specs.Lengths.{Least, none, some}
 use Rattle.walks.specs.Goals.{entry_of, exit_of, own_of}
 use Rattle.goal_table.proofs.SetLaws.{length_none, chosen_all}
 use Rattle.goal_table.proofs.TableLaws.{same_front, asked_of}
@@ -102,7 +99,7 @@ module _ (N : Net) (a : ℕ) (goals starts : List ℕ) (S : StartsAre (graph N) 
     room = omega (arith, front_count);
   }
 
-  pub starts_of : (xs : List ℕ) → Proper N → Packed N xs → StartsOf N xs N.marks (take (length goals + 1) starts)
+  pub starts_of : (xs : List Arc) → Proper N → Packed N xs → StartsOf N xs N.marks (take (length goals + 1) starts)
   starts_of xs p P = record { proper = p; marked = refl; packed = P; nodes = front_inside }
 
 -- where goal i is entered and its own length are noted
@@ -166,22 +163,3 @@ module _ {N : Net} {cap a : ℕ} {goals work : List ℕ} (k v : ℕ) (l : length
       let p : 1 ≤ 2 ^ k = one-le-pow k 2 (omega arith) in
       let e : chosen goals set ≡ goals = ap (chosen goals) (q ∙ ap (λ (n : ℕ). 2 ^ n - 1) (sym l)) ∙ chosen_all goals in
       reach N a goals (asked_of F set v (omega arith) (rw l (omega arith)) h) ∙ ap (λ (gs : List ℕ). held cap (least (graph N) (closed N) gs a v)) e
-
--- what a number that is held tells: nothing above the cap, and else the length itself
-pub told_none : (cap x : ℕ) (r : Least) → cap < x → x ≡ held cap r → none ≡ at_most cap r
-unfolding held at_most kept code
-told_none cap x none h e = refl
-told_none cap x (some a) h e = go (leb a cap) refl e
-  where
-    go : (t : Bool) → leb a cap ≡ t → x ≡ code (kept t a) → none ≡ kept t a
-    go true q e' = absurd (omega (arith, e', leb-true a cap q))
-    go false q e' = refl
-
-pub told_some : (cap x : ℕ) (r : Least) → cap < missing → x ≤ cap → x ≡ held cap r → some x ≡ at_most cap r
-unfolding held at_most kept code
-told_some cap x none c h e = absurd (omega (arith, e))
-told_some cap x (some a) c h e = go (leb a cap) e
-  where
-    go : (t : Bool) → x ≡ code (kept t a) → some x ≡ kept t a
-    go true e' = ap some e'
-    go false e' = absurd (omega (arith, e'))

@@ -37,7 +37,6 @@ module _ {A : Type 0} where
 
   -- some entry passes the test
   pub any_exact : (f : A → Bool) (xs : List A) → (any f xs ≡ true) ↔ ((x : A) × Entry x xs × (f x ≡ true))
-  unfolding any
   any_exact f xs = (forth xs, λ w. back xs w.0 w.1 w.2)
     where
       forth : (xs : List A) → any f xs ≡ true → (x : A) × Entry x xs × (f x ≡ true)
@@ -82,7 +81,6 @@ module _ {A : Type 0} where
 
 -- tests that agree everywhere
 pub every_same : (f g : ℕ → Bool) → ((x : ℕ) → f x ≡ g x) → (xs : List ℕ) → every f xs ≡ every g xs
-unfolding every
 every_same f g h [] = refl
 every_same f g h (x ∷ xs) = rw (h x, every_same f g h xs)
 

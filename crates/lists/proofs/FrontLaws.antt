@@ -14,12 +14,12 @@ zeros_at zero k = refl
 zeros_at (suc n) zero = refl
 zeros_at (suc n) (suc k) = zeros_at n k
 
-pub length_front : (xs d : List ℕ) → length xs ≤ length d → length (front xs d) ≡ length d
+pub length_front : {A : Type 0} (xs d : List A) → length xs ≤ length d → length (front xs d) ≡ length d
 length_front xs d h = simp (length-append, length-drop) (omega arith)
 
 -- a list over the front of one as long is that list
-pub front_whole : (xs d : List ℕ) → length d ≤ length xs → front xs d ≡ xs
-front_whole xs d h = ap (λ (ys : List ℕ). xs ++ ys) (drop_of_length-le d h) ∙ append-nil xs
+pub front_whole : {A : Type 0} (xs d : List A) → length d ≤ length xs → front xs d ≡ xs
+front_whole xs d h = ap (λ ys. xs ++ ys) (drop_of_length-le d h) ∙ append-nil xs
 
 -- taking or dropping no more than there is takes or drops the same
 pub take_least : {A : Type 0} (n : ℕ) (xs : List A) → take (min n (length xs)) xs ≡ take n xs
@@ -30,25 +30,25 @@ pub drop_least : {A : Type 0} (n : ℕ) (xs : List A) → drop (min n (length xs
 drop_least n xs = min_cases n (length xs) (drop (min n (length xs)) xs ≡ drop n xs) (λ h e. rw e) (λ h e. rw e (drop-length xs ∙ sym (drop_of_length-le xs h)))
 
 -- what stays behind a place stays behind a later one
-pub drop_further : (m n : ℕ) (u v : List ℕ) → m ≤ n → drop m u ≡ drop m v → drop n u ≡ drop n v
+pub drop_further : {A : Type 0} (m n : ℕ) (u v : List A) → m ≤ n → drop m u ≡ drop m v → drop n u ≡ drop n v
 drop_further m n u v h e =
     let q : m + (n - m) ≡ n = omega arith in
     ap (λ (k : ℕ). drop k u) (sym q) ∙ sym (drop-drop (n - m) m u) ∙ ap (drop (n - m)) e ∙ drop-drop (n - m) m v ∙ ap (λ (k : ℕ). drop k v) q
 
 -- what is behind the front is as it was
-pub front_rest : (xs d : List ℕ) (n : ℕ) → length xs ≤ n → drop n (front xs d) ≡ drop n d
+pub front_rest : {A : Type 0} (xs d : List A) (n : ℕ) → length xs ≤ n → drop n (front xs d) ≡ drop n d
 front_rest xs d n h =
     let k : length xs + (n - length xs) ≡ n = omega arith in
     ap (λ (i : ℕ). drop i (front xs d)) (sym k) ∙ drop-append-add xs (drop (length xs) d) (n - length xs) ∙ drop-drop (n - length xs) (length xs) d
     ∙ ap (λ (i : ℕ). drop i d) k
 
-pub push : (xs d : List ℕ) (v : ℕ) → length xs < length d → set (front xs d) (length xs) v ≡ front (xs ++ (v ∷ [])) d
+pub push : {A : Type 0} (xs d : List A) (v : A) → length xs < length d → set (front xs d) (length xs) v ≡ front (xs ++ (v ∷ [])) d
 push xs d v h =
     let k : length (xs ++ (v ∷ [])) ≡ suc (length xs) = length-append xs (v ∷ []) ∙ add-one (length xs) in
-    rw (drop-cons d (length xs) 0 h, set-append_seam, k) (sym (append_snoc xs v (drop (suc (length xs)) d)))
+    rw (drop-cons d (length xs) v h, set-append_seam, k) (sym (append_snoc xs v (drop (suc (length xs)) d)))
 
 -- one number more, stored after those in front
-pub push_at : (xs d out : List ℕ) (i v : ℕ) → out ≡ front xs d → length xs ≡ i → i < length d → set out i v ≡ front (xs ++ (v ∷ [])) d
+pub push_at : {A : Type 0} (xs d out : List A) (i : ℕ) (v : A) → out ≡ front xs d → length xs ≡ i → i < length d → set out i v ≡ front (xs ++ (v ∷ [])) d
 push_at xs d out i v e l h = rw (e, ← l) (push xs d v (rw (← l) at h))
 
 -- vs, written over the front of the part from `at` on, of a list with xs over its front

@@ -4,6 +4,6 @@ pub mod Pigeonhole
 pub mod AscendLaws
 pub mod FrontLaws
 pub mod RowLaws
-pub mod TestedLaws
+pub mod StdLaws
 pub mod EntryLaws
 pub mod MovedLaws

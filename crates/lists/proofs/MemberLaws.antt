@@ -71,13 +71,11 @@ keep_member f x (y ∷ ys) m = go (f y) refl m (keep_member f x ys)
     go false q e ih = later (ih e)
 
 pub every_at : (f : ℕ → Bool) (xs : List ℕ) (x : ℕ) → every f xs ≡ true → member x xs ≡ true → f x ≡ true
-unfolding every
 every_at f [] x e m = absurd (member_none x m)
 every_at f (y ∷ ys) x e m =
     let s = and_true (f y) (every f ys) e in ⊎_elim (λ q. ap f q ∙ s.0) (every_at f ys x s.1) (member_cases x y ys m)
 
 pub every_all : (f : ℕ → Bool) (xs : List ℕ) → ((x : ℕ) → member x xs ≡ true → f x ≡ true) → every f xs ≡ true
-unfolding every
 every_all f [] h = refl
 every_all f (y ∷ ys) h = true_and (h y (member_head y ys)) (every_all f ys (λ x q. h x (member_tail x y ys q)))
 

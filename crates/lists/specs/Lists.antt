@@ -1,5 +1,6 @@
 -- Choices, and tests over lists of numbers.
 use Rattle.std.specs.Prelude.{ℕ, zero, suc, ◌≡◌, Bool, true, false, not, ◌&&◌, ◌||◌, List, [], ◌∷◌, ◌++◌, length, drop, eqb, ltb}
+use Rattle.std.specs.List.{list_all, list_any}
 
 abbrev pub pick : {A : Type 0} → Bool → A → A → A
 pick true a b = a
@@ -11,9 +12,8 @@ member x [] = false
 member x (y ∷ ys) = eqb x y || member x ys
 
 -- each entry passes the test
-unfoldable pub every : (ℕ → Bool) → List ℕ → Bool
-every f [] = true
-every f (x ∷ xs) = f x && every f xs
+abbrev pub every : (ℕ → Bool) → List ℕ → Bool
+every f xs = list_all f xs
 
 -- the entries that pass the test
 unfoldable pub add : {A : Type 0} → Bool → A → List A → List A
@@ -40,9 +40,8 @@ alike (x ∷ xs) [] = false
 alike (x ∷ xs) (y ∷ ys) = eqb x y && alike xs ys
 
 -- some entry passes the test
-unfoldable pub any : {A : Type 0} → (A → Bool) → List A → Bool
-any f [] = false
-any f (x ∷ xs) = f x || any f xs
+abbrev pub any : {A : Type 0} → (A → Bool) → List A → Bool
+any f xs = list_any f xs
 
 -- x is an entry of the list, whatever its entries are
 pub data Entry {A : Type 0} (x : A) : List A → Type 0 where
@@ -60,15 +59,21 @@ ascends [] = true
 ascends (x ∷ []) = true
 ascends (x ∷ y ∷ ys) = ltb x y && ascends (y ∷ ys)
 
+-- each entry and the next pass the test
+unfoldable pub each_next : {A : Type 0} → (A → A → Bool) → List A → Bool
+each_next f [] = true
+each_next f (x ∷ []) = true
+each_next f (x ∷ y ∷ ys) = f x y && each_next f (y ∷ ys)
+
 -- no entry stands twice
 abbrev pub Distinct : List ℕ → Type 0
 Distinct [] = Unit {0}
 Distinct (x ∷ xs) = (member x xs ≡ false) × Distinct xs
 
 -- the list d with xs over its front
-abbrev pub front : List ℕ → List ℕ → List ℕ
+abbrev pub front : {A : Type 0} → List A → List A → List A
 front xs d = xs ++ drop (length xs) d
 
 -- xs stands over the front of d, and n counts it: what a function that writes gives and leaves
-abbrev pub Put : List ℕ → List ℕ → List ℕ → ℕ → Type 0
+abbrev pub Put : {A : Type 0} → List A → List A → List A → ℕ → Type 0
 Put xs d out n = (n ≡ length xs) × (out ≡ front xs d)

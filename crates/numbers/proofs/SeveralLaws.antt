@@ -3,14 +3,15 @@ use Prim.Native.Nat.{ℕ, zero, suc, ◌+◌, ◌-◌, ◌≤◌, ◌<◌}
 use mathlib.Core.Path.{◌≡◌, refl, ap, sym, ◌∙◌}
 use mathlib.Core.List.{List, [], ◌∷◌, ◌++◌, append_assoc, append-nil}
 use native.Mathlib.Omega.{arith}
-use native.Mathlib.Numerals.{add-one}
-use lib.ListN.{length, set, drop, length-append, length-drop, drop_of_length-le}
-use lib.Seq.{drop-cons, drop-append_seam, set-append_seam, append_snoc}
+use lib.ListN.{length, set, take, drop, length-append, length-drop, drop_of_length-le, take-append-drop}
+use lib.Seq.{drop-append_seam, length-take-le}
+use Rattle.std.proofs.lemmas.List.{drop-append-le}
 use Rattle.lists.specs.Lists.{front}
+use Rattle.lists.proofs.FrontLaws.{push_at}
 use Rattle.varint.proofs.ReadLaws.{none_yet}
 use Rattle.varint.proofs.VarintLaws.{several_first, got_both, number_front}
 use Rattle.varint.specs.Varint.{Read, got, refuse, after, several, read_number}
-use Rattle.numbers.specs.Begun.{ahead, begun, over}
+use Rattle.numbers.specs.Begun.{ahead, begun}
 
 -- the values xs, read before others
 abbrev pub before : {A : Type 0} → List A → Read (List A) → Read (List A)
@@ -94,38 +95,6 @@ pub go_got :
     → several f m bs ≡ got (begun f m bs) rest
 go_got w l = sym (go_done w l).0
 
--- one value more, stored after those in front
-push_over : {A : Type 0} (xs d out : List A) (i : ℕ) (v : A) → out ≡ over xs d → length xs ≡ i → i < length d → set out i v ≡ over (xs ++ (v ∷ [])) d
-push_over xs d out i v e l h =
-    let k : length (xs ++ (v ∷ [])) ≡ suc (length xs) = length-append xs (v ∷ []) ∙ add-one (length xs) in
-    rw (e, ← l, drop-cons d (length xs) v (rw (← l) at h), set-append_seam, k) (sym (append_snoc xs v (drop (suc (length xs)) d)))
-
--- the same, and `put` says how the values read so far stand over the front of the list `old`
-pub record Filling
-    {A : Type 0} (f : List ℕ → Read A) (put : List A → List ℕ) (m : ℕ) (bs old : List ℕ) (j : ℕ) (rest out : List ℕ) : Type 0 where
-  pub way : Going f m bs j rest
-  pub holds : out ≡ front (put way.xs) old
-
-pub start : {A : Type 0} (f : List ℕ → Read A) (put : List A → List ℕ) (m : ℕ) (bs old : List ℕ) → put [] ≡ [] → Filling f put m bs old 0 bs old
-unfolding go_start
-start f put m bs old p = record { way = go_start f m bs; holds = rw p }
-
-module _
-    {A : Type 0} {f : List ℕ → Read A} {put : List A → List ℕ} {m : ℕ} {bs old : List ℕ} {j : ℕ} {rest out : List ℕ}
-    (w : Filling f put m bs old j rest out)
-  where
-    pub more :
-        {a : A} {next out' : List ℕ} → j < m → got a next ≡ f rest → out' ≡ front (put (w.way.xs ++ (a ∷ []))) old
-        → Filling f put m bs old (j + 1) next out'
-    unfolding go_more
-    more l e h = record { way = go_more w.way l e; holds = h }
-
-    pub stops : {e : ℕ} → j < m → refuse e ≡ f rest → (refuse e ≡ several f m bs) × (out ≡ front (put (begun f m bs)) old)
-    stops l e = let k = go_stops w.way l e in (k.0, rw k.1 w.holds)
-
-    pub done : m ≤ j → (got (begun f m bs) rest ≡ several f m bs) × (out ≡ front (put (begun f m bs)) old)
-    done l = let k = go_done w.way l in (k.0, rw k.1 w.holds)
-
 -- k values were asked for: so many were read, and these are the ones that `begun` names
 pub several_read :
     {A : Type 0} (f : List ℕ → Read A) (k : ℕ) (bs : List ℕ) (xs : List A) (rest : List ℕ) → got xs rest ≡ several f k bs
@@ -140,7 +109,7 @@ several_read f (suc k) bs xs rest e =
 -- the values of one kind, read so far, stand over the front of a list of them
 pub record Storing {A : Type 0} (f : List ℕ → Read A) (m : ℕ) (bs : List ℕ) (old : List A) (j : ℕ) (rest : List ℕ) (out : List A) : Type 0 where
   pub way : Going f m bs j rest
-  pub holds : out ≡ over way.xs old
+  pub holds : out ≡ front way.xs old
 
 pub store_start : {A : Type 0} (f : List ℕ → Read A) (m : ℕ) (bs : List ℕ) (old : List A) → Storing f m bs old 0 bs old
 unfolding go_start
@@ -154,15 +123,15 @@ module _
 
     pub store_more : {a : A} {next : List ℕ} → j < m → m ≤ length old → f rest ≡ got a next → Storing f m bs old (j + 1) next (set out j a)
     unfolding go_more
-    store_more {a} {next} l room e = record { way = go_more w.way l (sym e); holds = push_over w.way.xs old out j a w.holds w.way.size (omega arith) }
+    store_more {a} {next} l room e = record { way = go_more w.way l (sym e); holds = push_at w.way.xs old out j a w.holds w.way.size (omega arith) }
 
     pub store_refused : {e : ℕ} → j < m → f rest ≡ refuse e → several f m bs ≡ refuse e
     store_refused l e = sym (go_stops w.way l (sym e)).0
 
-    pub store_stops : {e : ℕ} → j < m → f rest ≡ refuse e → out ≡ over (begun f m bs) old
+    pub store_stops : {e : ℕ} → j < m → f rest ≡ refuse e → out ≡ front (begun f m bs) old
     store_stops l e = let k = go_stops w.way l (sym e) in rw k.1 w.holds
 
-    pub store_done : m ≤ j → out ≡ over (begun f m bs) old
+    pub store_done : m ≤ j → out ≡ front (begun f m bs) old
     store_done l = let k = go_done w.way l in rw k.1 w.holds
 
     pub store_got : m ≤ j → m ≡ length old → several f m bs ≡ got out rest
@@ -171,6 +140,19 @@ module _
         let z : drop (length w.way.xs) old ≡ [] = drop_of_length-le old (omega (arith, w.way.size)) in
         rw (← k.0, k.1) (rw (w.holds, z, append-nil))
 
+-- n values of a kind, read over the first n places of a list
+module _ {A : Type 0} (f : List ℕ → Read A) (bs : List ℕ) {k n : ℕ} (size : k ≡ n) where
+  pub part_got : {xs : List A} {rest : List ℕ} → several f k bs ≡ got xs rest → several f n bs ≡ got (begun f n bs) rest
+  part_got {xs} {rest} q = let e = several_read f k bs xs rest (sym q) in rw (← size) (rw e.1 q)
+
+  pub part_refused : {e : ℕ} → several f k bs ≡ refuse e → several f n bs ≡ refuse e
+  part_refused q = rw (← size) q
+
+pub part_front : {A : Type 0} (xs d : List A) (n : ℕ) {out : List A} → out ≡ front xs (take n d) → length out ≡ n → n ≤ length d → out ++ drop n d ≡ front xs d
+part_front xs d n {out} e l h =
+    let few : length xs ≤ length (take n d) = omega (arith, length-take-le n d h, simp length-append at (sym (ap length e) ∙ l)) in
+    rw e (append_assoc xs (drop (length xs) (take n d)) (drop n d)) ∙ ap (xs ++◌) (sym (drop-append-le (length xs) (take n d) (drop n d) few) ∙ ap (drop (length xs)) (take-append-drop n d))
+
 pub ruleset gone = (go_start, go_more)
 
 none_at_all : (k : ℕ) → begun read_number k [] ≡ []
@@ -178,9 +160,12 @@ unfolding read_number begun
 none_at_all zero = refl
 none_at_all (suc k) = begun_not read_number k (sym (none_yet 3))
 
--- no number stands behind the bytes
-pub none_behind : (k from : ℕ) (bs : List ℕ) → length bs ≤ from → begun read_number k (drop from bs) ≡ []
+-- no number stands behind the bytes, so nothing is stored
+none_behind : (k from : ℕ) (bs : List ℕ) → length bs ≤ from → begun read_number k (drop from bs) ≡ []
 none_behind k from bs h = rw (drop_of_length-le bs h) (none_at_all k)
+
+pub none_stored : (k from : ℕ) (bs out : List ℕ) → length bs ≤ from → out ≡ front (begun read_number k (drop from bs)) out
+none_stored k from bs out h = rw (none_behind k from bs h) refl
 
 -- numbers that were read one after the other stand before what is left
 pub numbers_parts : (k : ℕ) (bs xs rest : List ℕ) → several read_number k bs ≡ got xs rest → (p : List ℕ) × (bs ≡ p ++ rest)

@@ -1,5 +1,5 @@
 -- The values of a kind that are read one after the other, as far as they go.
-use Rattle.std.specs.Prelude.{ℕ, zero, suc, List, [], ◌∷◌, ◌++◌, length, drop}
+use Rattle.std.specs.Prelude.{ℕ, zero, suc, List, [], ◌∷◌}
 use Rattle.varint.specs.Varint.{Read, got, refuse}
 
 -- what follows a value; nothing where it was refused
@@ -11,7 +11,3 @@ ahead (refuse e) f = []
 unfoldable pub begun : {A : Type 0} → (List ℕ → Read A) → ℕ → List ℕ → List A
 begun f zero bs = []
 begun f (suc k) bs = ahead (f bs) (λ a rest. a ∷ begun f k rest)
-
--- the list d with xs over its front, whatever its entries are
-abbrev pub over : {A : Type 0} → List A → List A → List A
-over xs d = xs ++ drop (length xs) d

@@ -2,7 +2,7 @@
 
 #![tactic(auto)]
 
-ghost use Rattle.std.specs.Prelude.{◌≡◌, true, ◌+◌, ◌≤◌, ◌<◌, length, drop};
+ghost use Rattle.std.specs.Prelude.{◌≡◌, true, ◌≤◌, length, drop};
 ghost use Rattle.lists.specs.Lists.{front, Put};
 ghost use Rattle.varint.specs.Varint.{read_number, write_numbers};
 ghost use Rattle.numbers.specs.Begun.{begun};
@@ -14,6 +14,7 @@ use section::Plain;
 use varint::Bytes;
 
 // Stores the numbers that stand from `from` on over the front of `out`, up to the first that cannot be read.
+#[tactic(auto, using(crate::proofs::SeveralLaws::none_stored))]
 pub fn values_at(bytes: &[u8], from: usize, count: usize, out: &mut [u32])
     requires { count ≤ length out.old }
     ensures { out.new ≡ front (begun read_number count (drop from bytes.now)) out.old }
@@ -32,19 +33,6 @@ pub fn put_numbers(out: &mut [u8], numbers: &[u32]) -> usize
     let mut at = 0;
     for &x in numbers {
         at += varint::put_number(&mut out[at..], x);
-    }
-    at
-}
-
-// The same for indices.
-#[tactic(auto, using(crate::proofs::RowRules::row_rules))]
-pub fn put_indices(out: &mut [u8], indices: &[usize]) -> usize
-    requires { (small indices.now ≡ true) × (length (write_numbers indices.now) ≤ length out.old) }
-    ensures { Put (write_numbers indices.now) out.old out.new result }
-{
-    let mut at = 0;
-    for &index in indices {
-        at += varint::put_number(&mut out[at..], index as u32);
     }
     at
 }

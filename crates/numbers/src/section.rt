@@ -1,8 +1,8 @@
-ghost use Rattle.std.specs.Prelude.{◌≡◌, ◌≤◌, ℕ, List, length, drop, IfOk, IfErr, OnOk};
-ghost use Rattle.lists.specs.Lists.{front};
+ghost use Rattle.std.specs.Prelude.{◌≡◌, ℕ, List, length, IfOk, IfErr, OnOk};
 ghost use Rattle.varint.specs.Varint.{Read, got, refuse, read_number, several};
 ghost use Rattle.varint.specs.Refusal.{number_of};
-ghost use Rattle.numbers.specs.Begun.{begun, over};
+ghost use Rattle.lists.specs.Lists.{front};
+ghost use Rattle.numbers.specs.Begun.{begun};
 
 use varint::{Bytes, Refusal};
 
@@ -19,7 +19,7 @@ pub trait Kind {
 }
 
 // Numbers as they are.
-#[derive(Clone, Copy)]
+#[derive(Clone, Copy, Debug, PartialEq, Eq)]
 pub struct Plain;
 
 impl Kind for Plain {
@@ -32,26 +32,11 @@ impl Kind for Plain {
     }
 }
 
-// Numbers as indices.
-#[derive(Clone, Copy)]
-pub struct Indices;
-
-impl Kind for Indices {
-    type Value = usize;
-
-    ghost reads = { λ kind bs. read_number bs };
-
-    fn take(&self, bytes: &mut Bytes) -> Result<usize, Refusal> {
-        let index = Plain.take(bytes)?;
-        Ok(index as usize)
-    }
-}
-
 // Takes as many values as `out` has places and stores each, up to the first that is refused.
 pub fn read_all<K: Kind>(kind: &K, bytes: &mut Bytes, out: &mut [K::Value]) -> Result<(), Refusal>
     ensures got { OnOk result (several (K.reads kind.now) (length out.old) bytes.old.rest.now ≡ got out.new bytes.new.rest.now) }
     ensures refused { IfErr result (λ why. several (K.reads kind.now) (length out.old) bytes.old.rest.now ≡ refuse (number_of why)) }
-    ensures in_front { out.new ≡ over (begun (K.reads kind.now) (length out.old) bytes.old.rest.now) out.old }
+    ensures in_front { out.new ≡ front (begun (K.reads kind.now) (length out.old) bytes.old.rest.now) out.old }
 {
     for i in 0..out.len() {
         out[i] = kind.take(bytes)?;

@@ -21,6 +21,7 @@ use Rattle.slip_reader.specs.Form.{slip_from}
 use Rattle.pass_rules.proofs.SlipOfPass.{marks_are, slip_small, verdict_goals, reasons_count}
 use Rattle.pass_rules.proofs.VerdictLaws.{refused_goals, verdict_low}
 use Rattle.pass_rules.specs.Verdict.{verdict, new_marks, reasons_for, slip_for, pass_slip}
+use Rattle.walks.specs.declared.arc.Arc.{Arc}
 use Rattle.walks.specs.Graph.{item_count}
 use Rattle.pass.specs.Blamed.{Blamed}
 
@@ -29,11 +30,12 @@ pub slip_writes : (s : Slip) (n : ℕ) → Small s → 1200 ≤ n → (small (sl
 slip_writes s n b l = (small_below 16384 (slip_numbers s) (omega arith) (numbers_below s b), omega (arith, (slip_size s b).0))
 
 -- at most as many reasons as items
-pub reasons_inside : {h : Header} {arcs marks : List ℕ} → Whole h arcs marks → (goals d : List ℕ) {out : List ℕ} {k : ℕ} → Put (reasons_for (sheet_of h arcs marks) goals) d out k
-    → length out ≡ 576 → k ≤ length out
+pub reasons_inside : {h : Header} {arcs : List Arc} {marks : List ℕ} → Whole h arcs marks → (goals d : List ℕ) {out : List ℕ} {k : ℕ}
+    → Put (reasons_for (sheet_of h arcs marks) goals) d out k → length out ≡ 576 → k ≤ length out
 reasons_inside {h} {arcs} {marks} W goals d w l = omega (arith, w.0, reasons_count (sheet_of h arcs marks) goals, items_are W, W.proper.few, W.few)
 
-module _ {h : Header} {arcs marks : List ℕ} (W : Whole h arcs marks) {v : Verdict} {scratch : List ℕ} (J : VerdictFound h arcs marks v scratch) where
+module _ {h : Header} {arcs : List Arc} {marks : List ℕ} (W : Whole h arcs marks) {v : Verdict} {scratch : List ℕ}
+    (J : VerdictFound h arcs marks v scratch) where
   abbrev S : Sheet
   S = sheet_of h arcs marks
 

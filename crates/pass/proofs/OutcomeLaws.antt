@@ -4,6 +4,7 @@ use mathlib.Core.Path.{◌≡◌, refl, sym, ap, ◌∙◌}
 use mathlib.Core.Bool.{Bool, true, false}
 use mathlib.Core.List.{List}
 use native.Mathlib.Omega.{arith}
+use native.Mathlib.Decide.{dec_lt}
 use lib.ListN.{length, drop}
 use lib.Seq.{take_at}
 use lib.Dec.{ltb}
@@ -11,12 +12,13 @@ use borrow.Author.Tests.{lt-ltb, le-ltb}
 use Rattle.lists.specs.Lists.{pick, Put}
 use Rattle.sheet.specs.Lent.{work_numbers, zeroed, work_after}
 use Rattle.work.proofs.LeftLaws.{left_finished, left_refused}
-use Rattle.work.specs.Left.{left}
+use Rattle.work.specs.Left.{left, is_zeroed}
 use Rattle.pass_rules.proofs.WithinLaws.{Within}
 use Rattle.pass_rules.proofs.WroteLaws.{refused_call, Finished, finished_call}
 use Rattle.varint.proofs.RefusalLaws.{no_refusal}
 use Rattle.varint.specs.Refusal.{number_of, number_in, length_in}
 use Rattle.varint.specs.declared.refusal.Refusal.{Refusal}
+use Rattle.varint.specs.declared.refusal.Refusal.TheVariants.{ShortWork, ShortSlip}
 use Rattle.std.specs.Prelude.{Result, Ok, Err}
 use Rattle.sheet.specs.Answer.{Answer, finished, refused, Wrote, wrote}
 use Rattle.pass_rules.specs.Pass.{Outcome, outcome, lent_enough, written}
@@ -68,6 +70,24 @@ module _ (a : Answer) (work slip : List ℕ) where
     unfolding lent_enough
     with_work h l w e n z =
         rw (le-ltb (length work) 16384 g, le-ltb (length slip) 1200 h, z, n) (ap (λ (w : Wrote). worked w work) e ∙ worked_is work slip a l)
+
+-- a call that is refused where it is lent too little, and else leaves what it was made for
+pub lent_outcome : (a : Answer) (work slip : List ℕ) → Within a → (r : Result ℕ Refusal) {after out : List ℕ} → (length work < 16384 → (r ≡ Err ShortWork) × (out ≡ slip))
+    → (16384 ≤ length work → length slip < 1200 → (r ≡ Err ShortSlip) × (out ≡ slip))
+    → (16384 ≤ length work → 1200 ≤ length slip → record { number = number_in r; length = length_in r; out = out } ≡ wrote a slip)
+    → after ≡ left zeroed (number_in r) work
+    → record { number = number_in r; length = length_in r; work = after; slip = out } ≡ outcome (lent_enough work slip a) work slip
+unfolding left is_zeroed
+lent_outcome a work slip w r {after} {out} few short called z = go (dec_lt (length work) 16384) (dec_lt (length slip) 1200)
+  where
+    go : Dec (length work < 16384) → Dec (length slip < 1200)
+        → record { number = number_in r; length = length_in r; work = after; slip = out } ≡ outcome (lent_enough work slip a) work slip
+    go (yes h) k = let e = few h in rw (z, e.0, e.1) (short_work a work slip h)
+    go (no h) (yes k) = let l : 16384 ≤ length work = omega arith in let e = short l k in rw (z, e.0, e.1) (short_slip a work slip l k)
+    go (no h) (no k) =
+        let l : 16384 ≤ length work = omega arith in
+        let m : 1200 ≤ length slip = omega arith in
+        with_work a work slip l m w _ (called l m) refl z
 
 -- a call that answers 0 was lent enough, finished, and its slip stands in front
 pub call_writes : (a : Answer) (work slip : List ℕ) → Within a → (outcome (lent_enough work slip a) work slip).number ≡ 0

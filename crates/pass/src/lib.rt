@@ -1,142 +1,109 @@
 // The pass (document 01): strikes off what no walk within the limit can use, or refuses the round and lists the closures to blame.
 #![tactic(auto)]
 
-ghost use Rattle.std.specs.Prelude.{◌≡◌, true, ◌≤◌, length};
+ghost use Rattle.std.specs.Prelude.{◌≡◌, true, ◌≤◌, ◌<◌, length};
 ghost use Rattle.lists.specs.Lists.{member, Put};
 ghost use Rattle.varint.specs.Refusal.{number_in, length_in};
 ghost use Rattle.rows.specs.Net.{net_of};
 ghost use Rattle.rows.specs.Rows.{scratch_numbers};
-ghost use Rattle.goal_table.specs.Table.{Rowed};
+ghost use Rattle.goal_table.specs.Table.{GoalsFit, Rowed};
 ghost use Rattle.pass_rules.specs.Verdict.{reasons_for, pass_slip, verdict as verdict_of};
 ghost use Rattle.sheet.specs.Answer.{wrote};
 ghost use Rattle.pass_rules.specs.Pass.{pass_on, passed};
 ghost use Rattle.sheet.specs.Sheet.{sheet_of};
-ghost use Rattle.sheet_required.specs.Whole.{Whole};
-ghost use Rattle.item_fits.specs.Asked.{Sought};
 ghost use Rattle.pass.specs.Blamed.{Blamed};
 
-use item_fits::TWO_ROWS;
+use item_fits::EndRows;
 use lengths::Query;
 use pass_verdict::Verdict;
 use rows::SCRATCH_NUMBERS;
 use rows::net::Net;
-use sheet::Header;
+use sheet_reader::page::Page;
+use sheet_required::whole::Sheet;
+use slip_reader::claim::Claim;
 use varint::Refusal;
-use walks::{ARC_NUMBERS, FORBIDDEN, GOALS, ITEMS};
-use work::WORK_NUMBERS;
-
-// The bytes of a slip that an operation asks for.
-pub const SLIP_BYTES: usize = 1200;
-
-// The verdict that no walk meets all goals at once.
-const ALL_GOALS: u32 = 3;
+use walks::mark::Mark;
+use walks::{GOALS, ITEMS};
+pub use work::SLIP_BYTES;
 
 // Whether some item is forbidden.
-fn any_forbidden(marks: &[u8]) -> bool
+fn any_forbidden(marks: &[Mark]) -> bool
     ensures { result ≡ member 2 marks.now }
 {
-    marks.contains(&FORBIDDEN)
+    marks.contains(&Mark::FORBIDDEN)
 }
 
-// Has the rows for the goals ready in the scratch, where a list of reasons needs them. For verdict 3 they are there already.
-pub fn ready_rows(
-    header: Header,
-    arcs: &[u32],
-    marks: &[u8],
-    first: u32,
-    goals: &[usize],
-    scratch: &mut [u32],
-)
-    requires sought { Sought header arcs.now marks.now goals.now × (length scratch.old ≡ scratch_numbers) }
-    requires rows_ready_if_first_is_three { let N = net_of header.nodes arcs.now marks.now in
-        (first ≡ 3 → Rowed N header.limit header.source goals.now scratch.old) }
-    ensures { let N = net_of header.nodes arcs.now marks.now in
-        (member 2 marks.now ≡ true → Rowed N header.limit header.source goals.now scratch.new) }
+// Has the rows for the goals ready in the scratch, where a list of reasons needs them. Where no walk meets the goals all at once they are there already.
+pub fn ready_rows(query: &Query, net: &Net, first: u32, goals: &[u32], scratch: &mut [u32])
+    requires few_arcs { length net.now.arcs ≤ 512 }
+    requires goals_and_scratch_fit { GoalsFit net.now goals.now × (length scratch.old ≡ scratch_numbers) × (query.now.from < net.now.nodes) }
+    requires rows_ready_if_first_is_three { first ≡ 3 → Rowed net.now query.now.cap query.now.from goals.now scratch.old }
+    ensures { member 2 net.now.marks ≡ true → Rowed net.now query.now.cap query.now.from goals.now scratch.new }
 {
-    if first == ALL_GOALS {
-        return;
-    }
-    if any_forbidden(marks) {
-        let net = Net {
-            nodes: header.nodes,
-            arcs,
-            marks,
-        };
-        let query = Query {
-            from: header.source,
-            to: header.target,
-            cap: header.limit,
-        };
-        lengths::start_rows(query, &net, goals, scratch);
+    if first != u32::from(Claim::Apart) && any_forbidden(net.marks) {
+        lengths::start_rows(query, net, goals, scratch);
     }
 }
 
 // Writes the reasons for the goals, whose rows are in the scratch, over the front of `list` and gives their count. Where nothing is forbidden there are none.
-pub fn list_for_sheet(
-    header: Header,
-    arcs: &[u32],
-    marks: &[u8],
-    goals: &[usize],
-    scratch: &mut [u32],
-    list: &mut [u32],
-) -> usize
-    requires blamed { Blamed header arcs.now marks.now goals.now × (length scratch.old ≡ scratch_numbers) × (576 ≤ length list.old) }
-    requires rows_ready_if_forbidden { let N = net_of header.nodes arcs.now marks.now in
-        (member 2 marks.now ≡ true → Rowed N header.limit header.source goals.now scratch.old) }
-    ensures { let S = sheet_of header arcs.now marks.now in
+pub fn list_for_sheet(sheet: &Sheet, goals: &[u32], scratch: &mut [u32], list: &mut [u32]) -> usize
+    requires blamed { let s = sheet.now in
+        Blamed s.header s.arcs.now s.marks.now goals.now × (length scratch.old ≡ scratch_numbers) × (576 ≤ length list.old) }
+    requires rows_ready_if_forbidden { let s = sheet.now in
+        let N = net_of s.header.nodes s.arcs.now s.marks.now in
+        (member 2 s.marks.now ≡ true → Rowed N s.header.limit s.header.source goals.now scratch.old) }
+    ensures { let s = sheet.now in
+        let S = sheet_of s.header s.arcs.now s.marks.now in
         Put (reasons_for S goals.now) list.old list.new result }
 {
-    if any_forbidden(marks) {
-        let net = Net {
-            nodes: header.nodes,
-            arcs,
-            marks,
-        };
-        let query = Query {
-            from: header.source,
-            to: header.target,
-            cap: header.limit,
-        };
-        return greedy::list_reasons(query, &net, goals, scratch, list);
+    if any_forbidden(sheet.marks) {
+        return greedy::list_reasons(
+            &item_fits::query_of(sheet),
+            &sheet.net(),
+            goals,
+            scratch,
+            list,
+        );
     }
     0
 }
 
 // Writes the slip of a taken sheet over the front of `slip` and gives its length.
-pub fn write_answer(
-    header: Header,
-    arcs: &[u32],
-    marks: &[u8],
-    scratch: &mut [u32],
-    slip: &mut [u8],
-) -> usize
-    requires { Whole header arcs.now marks.now × (length scratch.old ≡ scratch_numbers) × (1200 ≤ length slip.old) }
-    ensures { let S = sheet_of header arcs.now marks.now in
+pub fn write_answer(sheet: &Sheet, scratch: &mut [u32], slip: &mut [u8]) -> usize
+    requires { (length scratch.old ≡ scratch_numbers) × (1200 ≤ length slip.old) }
+    ensures { let s = sheet.now in
+        let S = sheet_of s.header s.arcs.now s.marks.now in
         Put (pass_slip S (verdict_of S)) slip.old slip.new result }
 {
-    let mut rows = [0u32; TWO_ROWS];
-    item_fits::fill_end_rows(header, arcs, marks, &mut rows);
-    let mut room = [0usize; GOALS];
-    let verdict = pass_verdict::find_verdict(header, arcs, marks, &rows, &mut room, scratch);
+    let rows = EndRows::of(sheet);
+    let mut room = [0u32; GOALS];
+    let verdict = pass_verdict::find_verdict(&rows, &mut room, scratch);
     if let Verdict::Stands = verdict {
-        return pass_marks::write_stands(header, arcs, marks, &rows, slip);
+        return pass_marks::write_stands(&rows, slip);
     }
     let first = verdict.number();
     let goals = verdict.goals();
     let mut list = [0u32; ITEMS];
-    ready_rows(header, arcs, marks, first, goals, scratch);
-    let n = list_for_sheet(header, arcs, marks, goals, scratch, &mut list);
+    ready_rows(
+        &item_fits::query_of(sheet),
+        &sheet.net(),
+        first,
+        goals,
+        scratch,
+    );
+    let n = list_for_sheet(sheet, goals, scratch, &mut list);
     slip_writer::write_slip(slip, first, goals, &list[..n])
 }
 
 // The same with a scratch of its own, which is made no sooner than the sheet is known to be good.
-fn write_taken(header: Header, arcs: &[u32], marks: &[u8], slip: &mut [u8]) -> usize
-    requires { Whole header arcs.now marks.now × (1200 ≤ length slip.old) }
-    ensures { let S = sheet_of header arcs.now marks.now in
+fn write_taken(sheet: &Sheet, slip: &mut [u8]) -> usize
+    requires { 1200 ≤ length slip.old }
+    ensures { let s = sheet.now in
+        let S = sheet_of s.header s.arcs.now s.marks.now in
         Put (pass_slip S (verdict_of S)) slip.old slip.new result }
 {
     let mut scratch = [0u32; SCRATCH_NUMBERS];
-    write_answer(header, arcs, marks, &mut scratch, slip)
+    write_answer(sheet, &mut scratch, slip)
 }
 
 // What pass answers to a sheet, for a slip that is long enough: 3 to 13, or the length of its slip.
@@ -145,12 +112,9 @@ pub fn pass_sheet(sheet: &[u8], slip: &mut [u8]) -> Result<usize, Refusal>
     ensures { record { number = number_in result; length = length_in result; out = slip.new }
         ≡ wrote (pass_on sheet.now) slip.old }
 {
-    let mut arcs = [0u32; ARC_NUMBERS];
-    let mut marks = [0u8; ITEMS];
-    let header = sheet_reader::read(sheet, &mut arcs, &mut marks)?;
-    let numbers = 3 * header.arcs;
-    let items = header.nodes + header.arcs;
-    Ok(write_taken(header, &arcs[..numbers], &marks[..items], slip))
+    let mut page = Page::empty();
+    let taken = page.read(sheet)?;
+    Ok(write_taken(&taken, slip))
 }
 
 // The pass: for every sheet, work and slip what document 01 says, refused ones too.
@@ -158,13 +122,5 @@ pub fn pass(sheet: &[u8], work: &mut [u32], slip: &mut [u8]) -> Result<usize, Re
     ensures { record { number = number_in result; length = length_in result; work = work.new; slip = slip.new }
         ≡ passed sheet.now work.old slip.old }
 {
-    if work.len() < WORK_NUMBERS {
-        return Err(Refusal::ShortWork);
-    }
-    if slip.len() < SLIP_BYTES {
-        return Err(Refusal::ShortSlip);
-    }
-    let answer = pass_sheet(sheet, slip);
-    work::leave(work, work::number(&answer));
-    answer
+    work::lent(work, slip, |slip: &mut [u8]| pass_sheet(sheet, slip))
 }

@@ -7,7 +7,8 @@ use native.Mathlib.Omega.{arith}
 use native.Mathlib.Numerals.{add-one}
 use lib.ListN.{length, take, set}
 use lib.Seq.{take-suc, length-take-le, take_all}
-use borrow.Author.Tests.{ne_eqb}
+use lib.Dec.{eqb}
+use Rattle.walks.specs.declared.arc.Arc.{Arc}
 use Rattle.sheet.specs.declared.Header.{Header}
 use Rattle.lists.proofs.FrontLaws.{push_at}
 use Rattle.lists.specs.Lists.{front, pick}
@@ -20,9 +21,9 @@ use Rattle.pass_rules.specs.Verdict.{fits_sheet, is_pruned, new_mark, new_marks}
 use Rattle.sheet_required.proofs.WholeLaws.{items_are}
 
 -- an item's new mark by cases
-pub mark_kept : (S : Sheet) (i m : ℕ) → mark_of S i ≡ m → (m ≡ 0 → ⊥) → m ≡ new_mark S i
+pub mark_kept : (S : Sheet) (i m : ℕ) → m ≡ mark_of S i → eqb m 0 ≡ false → m ≡ new_mark S i
 unfolding is_open
-mark_kept S i m e n = sym (other_mark S i (ne_eqb (mark_of S i) 0 (λ z. n (sym e ∙ z))) ∙ e)
+mark_kept S i m e n = e ∙ sym (other_mark S i (rw e at n))
 
 pub mark_pruned : (S : Sheet) (i : ℕ) → mark_of S i ≡ 0 → fits_sheet S (i ∷ []) ≡ false → 2 ≡ new_mark S i
 unfolding new_mark is_pruned
@@ -36,7 +37,7 @@ mark_open S i r t e f g q = rw (is_open_lem S i e, f, g, e) q
 abbrev pub Marking : Sheet → ℕ → List ℕ → List ℕ → ℕ → Type 0
 Marking S n d out i = (i ≤ n) × (out ≡ front (take i (new_marks S)) d)
 
-module _ {h : Header} {arcs marks : List ℕ} (W : Whole h arcs marks) (d out : List ℕ) (i : ℕ) where
+module _ {h : Header} {arcs : List Arc} {marks : List ℕ} (W : Whole h arcs marks) (d out : List ℕ) (i : ℕ) where
   sized : length (new_marks (sheet_of h arcs marks)) ≡ h.nodes + h.arcs
   sized = new_marks_size (sheet_of h arcs marks) ∙ items_are W
 

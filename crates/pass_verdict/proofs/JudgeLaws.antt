@@ -5,19 +5,16 @@ use mathlib.Core.Bool.{Bool, true, false, not, ◌&&◌}
 use mathlib.Core.List.{List, [], ◌∷◌}
 use native.Mathlib.Omega.{arith}
 use lib.ListN.{length, get_or}
-use lib.Dec.{eqb}
-use borrow.Author.Tests.{ne_eqb}
 use Rattle.sheet.specs.declared.Header.{Header}
-use Rattle.goal_table.specs.Table.{Rowed}
-use Rattle.item_fits.proofs.AskedLaws.{whole_sought}
-use Rattle.item_fits.specs.Asked.{Sought}
+use Rattle.goal_table.specs.Table.{GoalsFit, Rowed}
 use Rattle.lists.proofs.AscendLaws.{ascends_distinct, keep_none, keep_first}
 use Rattle.sheet_required.proofs.WholeLaws.{items_are, goals_at}
 use Rattle.sheet_required.specs.Whole.{Whole}
 use Rattle.rows.specs.Net.{net_of}
-use Rattle.sheet.proofs.MarkLaws.{required_ascend, required_below, is_mandatory_lem}
-use Rattle.sheet.specs.Sheet.{Sheet, is_mandatory, all_items, required, mark_of, sheet_of}
+use Rattle.sheet.proofs.MarkLaws.{required_ascend, required_below}
+use Rattle.sheet.specs.Sheet.{Sheet, is_mandatory, all_items, required, sheet_of}
 use Rattle.pass_rules.specs.Verdict.{fits_sheet, unmet, verdict_from, verdict}
+use Rattle.walks.specs.declared.arc.Arc.{Arc}
 use Rattle.walks.specs.Flat.{graph_of}
 use Rattle.walks.specs.Graph.{item_count}
 use Rattle.std.specs.Prelude.{Some, None, slice_get}
@@ -25,7 +22,7 @@ use Rattle.pass_verdict.specs.declared.Verdict.{Verdict}
 use Rattle.pass_verdict.specs.declared.Verdict.TheVariants.{Stands, NoWay, Unmet, Apart}
 use Rattle.pass_verdict.specs.VerdictFound.{goals_of, number_of_verdict, VerdictFound}
 
-module _ {h : Header} {arcs marks : List ℕ} (W : Whole h arcs marks) where
+module _ {h : Header} {arcs : List Arc} {marks : List ℕ} (W : Whole h arcs marks) where
   -- the item is mandatory, and no walk meets it
   abbrev pub missed : ℕ → Bool
   missed i = is_mandatory (sheet_of h arcs marks) i && not (fits_sheet (sheet_of h arcs marks) (i ∷ []))
@@ -47,12 +44,12 @@ module _ {h : Header} {arcs marks : List ℕ} (W : Whole h arcs marks) where
   none_is n = rw (keep_none missed (item_count (graph_of h.nodes arcs)) 0 (λ j l g. n j (omega (arith, items_are W)))) refl
 
   -- the required items as goals
-  pub required_sought : Sought h arcs marks (required (sheet_of h arcs marks))
-  required_sought = whole_sought W (record {
+  pub required_fit : GoalsFit (net_of h.nodes arcs marks) (required (sheet_of h arcs marks))
+  required_fit = record {
     eight = W.eight;
     below = λ i l. omega (arith, goals_at (item_count (graph_of h.nodes arcs)) i (required (sheet_of h arcs marks)) (required_below (sheet_of h arcs marks)) l, items_are W);
     distinct = ascends_distinct (required (sheet_of h arcs marks)) (required_ascend (sheet_of h arcs marks));
-  })
+  }
 
 first_same : {i j : ℕ} → Some i ≡ Some j → i ≡ j
 first_same e = cc
@@ -67,7 +64,7 @@ unmet_empty [] e = refl
 unmet_empty (x ∷ xs) e = absurd cc
 
 -- the four verdicts
-module _ (h : Header) (arcs marks scratch : List ℕ) where
+module _ (h : Header) (arcs : List Arc) (marks scratch : List ℕ) where
   abbrev S : Sheet
   S = sheet_of h arcs marks
 
@@ -99,15 +96,14 @@ module _ (S : Sheet) where
       go (r ∷ rs) q z = absurd (omega arith)
 
 -- what the mark and the walks say of one item
-pub missed_item : (S : Sheet) (i : ℕ) (r : Bool) → mark_of S i ≡ 1 → r ≡ fits_sheet S (i ∷ []) → r ≡ false → (is_mandatory S i && not (fits_sheet S (i ∷ []))) ≡ true
-missed_item S i r m e z = rw (is_mandatory_lem S i m) (ap not (sym e ∙ z))
+pub missed_item : (S : Sheet) (i : ℕ) (r : Bool) → is_mandatory S i ≡ true → r ≡ fits_sheet S (i ∷ []) → r ≡ false → (is_mandatory S i && not (fits_sheet S (i ∷ []))) ≡ true
+missed_item S i r m e z = rw m (ap not (sym e ∙ z))
 
-pub met_item : (S : Sheet) (i : ℕ) (r : Bool) → mark_of S i ≡ 1 → r ≡ fits_sheet S (i ∷ []) → r ≡ true → (is_mandatory S i && not (fits_sheet S (i ∷ []))) ≡ false
-met_item S i r m e z = rw (is_mandatory_lem S i m) (ap not (sym e ∙ z))
+pub met_item : (S : Sheet) (i : ℕ) (r : Bool) → is_mandatory S i ≡ true → r ≡ fits_sheet S (i ∷ []) → r ≡ true → (is_mandatory S i && not (fits_sheet S (i ∷ []))) ≡ false
+met_item S i r m e z = rw m (ap not (sym e ∙ z))
 
-pub other_item : (S : Sheet) (i : ℕ) → (mark_of S i ≡ 1 → ⊥) → (is_mandatory S i && not (fits_sheet S (i ∷ []))) ≡ false
-unfolding is_mandatory
-other_item S i m = let z : eqb (mark_of S i) 1 ≡ false = ne_eqb (mark_of S i) 1 m in rw z
+pub other_item : (S : Sheet) (i : ℕ) → is_mandatory S i ≡ false → (is_mandatory S i && not (fits_sheet S (i ∷ []))) ≡ false
+other_item S i m = rw m
 
 -- only the verdict that stands has the number 0
 pub refused_number : (v : Verdict) → (v ≡ Stands → ⊥) → number_of_verdict v ≡ 0 → ⊥

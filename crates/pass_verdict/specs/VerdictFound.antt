@@ -1,5 +1,6 @@
 -- What the code finds of a sheet's verdict.
 use Rattle.std.specs.Prelude.{ℕ, ◌≤◌, ◌≡◌, List, [], ◌∷◌, length}
+use Rattle.walks.specs.declared.arc.Arc.{Arc}
 use Rattle.rows.specs.Net.{net_of}
 use Rattle.goal_table.specs.Table.{Rowed}
 use Rattle.sheet.specs.declared.Header.{Header}
@@ -23,7 +24,7 @@ goals_of (Unmet i) = i ∷ []
 goals_of (Apart goals) = goals.now
 
 -- the verdict's number and its goals; for verdict 3 the rows for the goals lie in the scratch
-pub record VerdictFound (h : Header) (arcs marks : List ℕ) (v : Verdict) (scratch : List ℕ) : Type 0 where
+pub record VerdictFound (h : Header) (arcs : List Arc) (marks : List ℕ) (v : Verdict) (scratch : List ℕ) : Type 0 where
   pub number : number_of_verdict v ≡ (verdict (sheet_of h arcs marks)).number
   pub goals : goals_of v ≡ (verdict (sheet_of h arcs marks)).goals
   pub few : length (goals_of v) ≤ 8

@@ -4,13 +4,11 @@
 ghost use Rattle.std.specs.Prelude.{◌≡◌, true, [], ◌+◌, ◌≤◌, ◌<◌, length, slice_get};
 ghost use Rattle.sheet.specs.Sheet.{sheet_of};
 ghost use Rattle.pass_rules.specs.Verdict.{fits_sheet, unmet};
-ghost use Rattle.sheet_required.specs.Whole.{Whole};
-ghost use Rattle.item_fits.specs.Rows.{Rows};
 ghost use Rattle.pass_verdict.specs.VerdictFound.{goals_of, number_of_verdict, VerdictFound};
 
-use sheet::Header;
+use item_fits::EndRows;
+use sheet_required::whole::Sheet;
 use std::slice;
-use walks::MANDATORY;
 
 // What a pass finds of a sheet.
 #[derive(Clone, Copy, Debug, PartialEq, Eq)]
@@ -20,9 +18,9 @@ pub enum Verdict<'a> {
     // No walk keeps within the limit, whatever it meets.
     NoWay,
     // No such walk meets this item, the lowest of the mandatory ones that none meets.
-    Unmet(usize),
+    Unmet(u32),
     // Some such walk meets each of the mandatory items, but none meets these, the required ones, all at once.
-    Apart(&'a [usize]),
+    Apart(&'a [u32]),
 }
 
 impl<'a> Verdict<'a> {
@@ -39,7 +37,7 @@ impl<'a> Verdict<'a> {
     }
 
     // What no walk meets.
-    pub fn goals(&self) -> &[usize]
+    pub fn goals(&self) -> &[u32]
         ensures { result.now ≡ goals_of self.now }
     {
         match self {
@@ -52,55 +50,43 @@ impl<'a> Verdict<'a> {
 }
 
 // The lowest mandatory item that no walk meets, if there is one.
-fn first_unmet(header: Header, arcs: &[u32], marks: &[u8], rows: &[u32]) -> Option<usize>
-    requires { Rows header arcs.now marks.now rows.now }
-    ensures { result ≡ slice_get (unmet (sheet_of header arcs.now marks.now)) 0 }
+fn first_unmet(rows: &EndRows) -> Option<u32>
+    ensures { let s = rows.now.sheet in result ≡ slice_get (unmet (sheet_of s.header s.arcs.now s.marks.now)) 0 }
 {
-    for (item, &mark) in marks.iter().enumerate() {
-        if mark == MANDATORY && !item_fits::fits_item(header, arcs, marks, rows, item) {
-            return Some(item);
+    for (item, &mark) in rows.sheet.marks.iter().enumerate() {
+        if mark.is_mandatory() && !rows.fits_item(item) {
+            return Some(item as u32);
         }
     }
     None
 }
 
 // The verdict where each mandatory item is met: the required items stand in front of `room` where no walk meets them together.
-fn judge_together<'a>(
-    header: Header,
-    arcs: &[u32],
-    marks: &[u8],
-    room: &'a mut [usize],
-    scratch: &mut [u32],
-) -> Verdict<'a>
-    requires whole_with_room { Whole header arcs.now marks.now × (length room.old ≡ 8) × (3072 ≤ length scratch.old) }
-    requires fits_and_each_must_met { let S = sheet_of header arcs.now marks.now in (fits_sheet S [] ≡ true) × (unmet S ≡ []) }
-    ensures { VerdictFound header arcs.now marks.now result scratch.new }
+fn judge_together<'a>(sheet: &Sheet, room: &'a mut [u32], scratch: &mut [u32]) -> Verdict<'a>
+    requires room_long { (length room.old ≡ 8) × (3072 ≤ length scratch.old) }
+    requires fits_and_each_must_met { let s = sheet.now in
+        let S = sheet_of s.header s.arcs.now s.marks.now in (fits_sheet S [] ≡ true) × (unmet S ≡ []) }
+    ensures { let s = sheet.now in VerdictFound s.header s.arcs.now s.marks.now result scratch.new }
 {
-    let count = sheet_required::required_items(header, arcs, marks, room);
+    let count = sheet_required::required_items(sheet.header, &sheet.arcs, sheet.marks, room);
     let goals = &room[..count];
-    if count == 0 || item_fits::fits_goals(header, arcs, marks, goals, scratch) {
+    let query = item_fits::query_of(sheet);
+    if count == 0 || item_fits::fits_goals(&query, &sheet.net(), goals, scratch) {
         return Verdict::Stands;
     }
     Verdict::Apart(goals)
 }
 
 // The verdict on a sheet. Required items that no walk meets together lie in `room`, and their rows in the scratch.
-pub fn find_verdict<'a>(
-    header: Header,
-    arcs: &[u32],
-    marks: &[u8],
-    rows: &[u32],
-    room: &'a mut [usize],
-    scratch: &mut [u32],
-) -> Verdict<'a>
-    requires { Rows header arcs.now marks.now rows.now × (length room.old ≡ 8) × (3072 ≤ length scratch.old) }
-    ensures { VerdictFound header arcs.now marks.now result scratch.new }
+pub fn find_verdict<'a>(rows: &EndRows, room: &'a mut [u32], scratch: &mut [u32]) -> Verdict<'a>
+    requires { (length room.old ≡ 8) × (3072 ≤ length scratch.old) }
+    ensures { let s = rows.now.sheet in VerdictFound s.header s.arcs.now s.marks.now result scratch.new }
 {
-    if rows[header.target] > header.limit {
+    if !rows.fits_some() {
         return Verdict::NoWay;
     }
-    if let Some(item) = first_unmet(header, arcs, marks, rows) {
+    if let Some(item) = first_unmet(rows) {
         return Verdict::Unmet(item);
     }
-    judge_together(header, arcs, marks, room, scratch)
+    judge_together(&rows.sheet, room, scratch)
 }

@@ -6,7 +6,7 @@
 // the numbers out would give are the laws `pass_copied`, `reason_copied` and `check_copied`.
 #![tactic(auto)]
 
-ghost use Rattle.std.specs.Prelude.{◌≡◌, ◌+◌, ◌*◌, ◌≤◌};
+ghost use Rattle.std.specs.Prelude.{◌≡◌};
 ghost use Rattle.varint.specs.Refusal.{number_in, length_in};
 ghost use Rattle.planner.specs.Layer.{passed_bytes, reasoned_bytes};
 ghost use Rattle.check_rules.specs.Check.{yes_in};
@@ -16,12 +16,10 @@ ghost use Rattle.sheet.specs.Draft.{draft_of};
 ghost use Rattle.store.specs.Held.{shelf_of, empty_store};
 ghost use Rattle.store_bytes.specs.Bytes.{put_bytes, ask_bytes};
 
-use pass::SLIP_BYTES;
 use sheet::Header;
 use sheet_writer::Draft;
 use store::Store;
 use varint::Refusal;
-use work::WORK_BYTES;
 
 // What check answers as a length: 1 for yes.
 fn counted(answer: Result<bool, Refusal>) -> Result<usize, Refusal>
@@ -31,31 +29,13 @@ fn counted(answer: Result<bool, Refusal>) -> Result<usize, Refusal>
     Ok(usize::from(answer?))
 }
 
-// The one number of a call that gives a length.
-fn one_number(answer: Result<usize, Refusal>) -> u32
-    requires { (number_in answer ≤ 27) × (length_in answer ≤ 65535) }
-    ensures { result ≡ 65536 * number_in answer + length_in answer }
-{
-    match answer {
-        Ok(length) => work::one_number(0, length),
-        Err(why) => work::one_number(u32::from(why), 0),
-    }
-}
-
 // Pass with the work lent as bytes: the one number of the call.
 pub fn ways_pass(sheet: &[u8], work: &mut [u8], slip: &mut [u8]) -> u32
     ensures { record { number = result; work = work.new; slip = slip.new }
         ≡ passed_bytes sheet.now work.old slip.old }
 {
-    if work.len() < WORK_BYTES {
-        return work::SHORT_WORK;
-    }
-    if slip.len() < SLIP_BYTES {
-        return work::SHORT_SLIP;
-    }
-    let answer = pass::pass_sheet(sheet, slip);
-    work::leave_bytes(work, work::number(&answer));
-    one_number(answer)
+    let answer = work::lent(work, slip, |slip: &mut [u8]| pass::pass_sheet(sheet, slip));
+    work::one_number_of(answer)
 }
 
 // Reason with the work lent as bytes: the one number of the call.
@@ -63,27 +43,20 @@ pub fn ways_reason(sheet: &[u8], work: &mut [u8], slip: &mut [u8], item: u32) ->
     ensures { record { number = result; work = work.new; slip = slip.new }
         ≡ reasoned_bytes sheet.now work.old slip.old item }
 {
-    if work.len() < WORK_BYTES {
-        return work::SHORT_WORK;
-    }
-    if slip.len() < SLIP_BYTES {
-        return work::SHORT_SLIP;
-    }
-    let answer = reason::reason_sheet(sheet, slip, item);
-    work::leave_bytes(work, work::number(&answer));
-    one_number(answer)
+    let answer = work::lent(
+        work,
+        slip,
+        |slip: &mut [u8]| reason::reason_sheet(sheet, slip, item),
+    );
+    work::one_number_of(answer)
 }
 
 // Check with the work lent as bytes: the one number of the call.
 pub fn ways_check(sheet: &[u8], work: &mut [u8], slip: &[u8]) -> u32
     ensures { record { number = result; work = work.new } ≡ checked_bytes sheet.now work.old slip.now }
 {
-    if work.len() < WORK_BYTES {
-        return work::SHORT_WORK;
-    }
-    let answer = counted(checker::check_sheet(sheet, slip));
-    work::leave_bytes(work, work::number(&answer));
-    one_number(answer)
+    let answer = work::lent_work(work, || checker::check_sheet(sheet, slip));
+    work::one_number_of(counted(answer))
 }
 
 // The header of the numbers that C hands over.
@@ -121,7 +94,7 @@ pub fn ways_write(
         marks,
         services,
     };
-    one_number(sheet_writer::write_sheet(&draft, sheet))
+    work::one_number_of(sheet_writer::write_sheet(&draft, sheet))
 }
 
 // Put with the work lent as bytes: the store itself is lent and holds the change afterwards.

@@ -1,5 +1,5 @@
 -- The answer for an item: 15, 16, or its slip; and whether the pass prunes it. Assumes nothing.
-use Prim.Native.Nat.{ℕ, zero, suc, ◌+◌, ◌/◌, ◌≤◌, ◌<◌}
+use Prim.Native.Nat.{ℕ, zero, suc, ◌+◌, ◌≤◌, ◌<◌}
 use mathlib.Core.Path.{◌≡◌, refl, ap}
 use mathlib.Core.Bool.{Bool, true, false, not, ◌&&◌}
 use mathlib.Core.List.{List, [], ◌∷◌}
@@ -14,13 +14,13 @@ use Rattle.sheet_required.specs.Whole.{Whole}
 use Rattle.lists.proofs.TestLaws.{and_true, not_true}
 use Rattle.lists.specs.Lists.{member, Put}
 use Rattle.pass.proofs.AnswerLaws.{slip_writes}
-use Rattle.sheet.proofs.MarkLaws.{is_open_lem}
-use Rattle.sheet.specs.Sheet.{Sheet, mark_of, is_open, sheet_of}
+use Rattle.sheet.specs.Sheet.{Sheet, is_open, sheet_of}
 use Rattle.sheet.specs.Slip.{slip_bytes, slip_numbers}
 use Rattle.slip_reader.specs.Form.{slip_from}
 use Rattle.pass_rules.proofs.SlipOfPass.{slip_small}
 use Rattle.sheet.specs.Answer.{finished, refused, answer_of}
 use Rattle.pass_rules.specs.Verdict.{fits_sheet, verdict, is_pruned, reasons_for, slip_for}
+use Rattle.walks.specs.declared.arc.Arc.{Arc}
 use Rattle.walks.specs.Graph.{item_count}
 use Rattle.reason_rules.specs.Reason.{prunes, reason_in}
 use Rattle.pass.specs.Blamed.{Blamed}
@@ -32,14 +32,14 @@ module _ (S : Sheet) (i : ℕ) where
   not_standing n = rw (ne_eqb (verdict S).number 0 n)
 
   -- the item is not open
-  pub not_open : (verdict S).number ≡ 0 → (mark_of S i ≡ 0 → ⊥) → false ≡ prunes S i
-  unfolding prunes is_pruned is_open
-  not_open z n = rw (eq-eqb (verdict S).number 0 z, ne_eqb (mark_of S i) 0 n)
+  pub not_open : (verdict S).number ≡ 0 → is_open S i ≡ false → false ≡ prunes S i
+  unfolding prunes is_pruned
+  not_open z n = rw (eq-eqb (verdict S).number 0 z, n)
 
   -- it is open: it is pruned exactly where no walk meets it
-  pub by_walks : (r : Bool) → (verdict S).number ≡ 0 → mark_of S i ≡ 0 → r ≡ fits_sheet S (i ∷ []) → not r ≡ prunes S i
+  pub by_walks : (r : Bool) → (verdict S).number ≡ 0 → is_open S i ≡ true → r ≡ fits_sheet S (i ∷ []) → not r ≡ prunes S i
   unfolding prunes is_pruned
-  by_walks r z o e = rw (eq-eqb (verdict S).number 0 z, is_open_lem S i o) (ap not e)
+  by_walks r z o e = rw (eq-eqb (verdict S).number 0 z, o) (ap not e)
 
   pub pruned_unmet : prunes S i ≡ true → fits_sheet S (i ∷ []) ≡ false
   unfolding prunes is_pruned
@@ -47,7 +47,7 @@ module _ (S : Sheet) (i : ℕ) where
       let a = and_true (eqb (verdict S).number 0) (is_open S i && not (fits_sheet S (i ∷ []))) p in
       not_true (fits_sheet S (i ∷ [])) (and_true (is_open S i) (not (fits_sheet S (i ∷ []))) a.1).1
 
-module _ {h : Header} {arcs marks : List ℕ} (W : Whole h arcs marks) (i : ℕ) where
+module _ {h : Header} {arcs : List Arc} {marks : List ℕ} (W : Whole h arcs marks) (i : ℕ) where
   abbrev S : Sheet
   S = sheet_of h arcs marks
 
@@ -68,7 +68,7 @@ module _ {h : Header} {arcs marks : List ℕ} (W : Whole h arcs marks) (i : ℕ)
     unfolding member
     blamed p = record { whole = W; fit = record { eight = omega arith; below = below; distinct = (refl, tt) }; unmet = pruned_unmet S i p }
       where
-        below : (j : ℕ) → j < 1 → get_or (i ∷ []) j 0 < h.nodes + length arcs / 3
+        below : (j : ℕ) → j < 1 → get_or (i ∷ []) j 0 < h.nodes + length arcs
         below zero q = omega (arith, l, W.sized.0)
         below (suc j) q = absurd (omega arith)
 

@@ -30,7 +30,8 @@ use Rattle.pass_rules.specs.Pass.{Refuses, EndsForbidden}
 use Rattle.pass_rules.specs.Route.{mandatory}
 use Rattle.pass_rules.specs.Verdict.{reasons_for, fits_sheet, slip_for, verdict, is_pruned, new_mark, pass_slip}
 use Rattle.walks.proofs.FitsLaws.{fits_anti, none_fits}
-use Rattle.walks.specs.Graph.{Graph, Arc, no_arc, tail_of, head_of, weight_of, item_count}
+use Rattle.walks.specs.declared.arc.Arc.{Arc}
+use Rattle.walks.specs.Graph.{Graph, no_arc, tail_of, head_of, weight_of, item_count}
 use Rattle.walks.specs.Walk.{NoWalk, SomeWalk}
 use Rattle.reason_rules.proofs.AnswerLaws.{explained}
 use Rattle.reason_rules.specs.Later.{SameMap, Later, Explains, Demanded}

@@ -14,7 +14,7 @@ use Rattle.sheet.specs.Page.{service_of, served_arc, served, sheet_on, no_servic
 use Rattle.sheet.specs.Sheet.{mark_of, is_open, is_mandatory, is_forbidden, all_items, all_arcs, ends_mandatory, is_forced, is_required, required}
 use Rattle.sheet.specs.Slip.{slip_numbers, slip_bytes, marks_bytes}
 use Rattle.varint.specs.Varint.{after, last_group, above, read_groups, read_number, judged, number, several, write_groups, write_number, write_numbers}
-use Rattle.walks.specs.Graph.{no_arc, tail_of, head_of, weight_of, arc_item, chain, items, len, clear, meets, fit, begin, onward, chains, against, least_of, least, fits}
+use Rattle.walks.specs.Graph.{tail_of, head_of, weight_of, arc_item, chain, items, len, clear, meets, fit, begin, onward, chains, against, least_of, least, fits}
 use Rattle.walks.specs.Lengths.{lesser, within}
 use Rattle.reason_rules.specs.Reason.{prunes, reason_in, reason_on}
 
@@ -42,5 +42,5 @@ pub star :
     × (pass_on (0x01 ∷ sheet_b 10 (0 ∷ 0 ∷ 0 ∷ 0 ∷ 0 ∷ 0 ∷ 0 ∷ 0 ∷ 0 ∷ 0 ∷ 2 ∷ 0 ∷ 0 ∷ []))
     ≡ finished (0x00 ∷ 0x01 ∷ 0x00 ∷ 0x02 ∷ 0x01 ∷ 0x00 ∷ 0x00 ∷ 0x02 ∷ 0x02 ∷ 0x02 ∷ []))
     × (pass_on (0x01 ∷ sheet_b 8 (0 ∷ 0 ∷ 0 ∷ 0 ∷ 0 ∷ 0 ∷ 0 ∷ 0 ∷ 0 ∷ 0 ∷ 0 ∷ 0 ∷ 0 ∷ [])) ≡ refused 11)
-unfolding sheet_b member every keep add span after last_group above read_groups read_number judged number several write_groups write_number write_numbers lesser within no_arc tail_of head_of weight_of arc_item chain items len clear meets fit begin onward chains against least_of least fits mark_of is_open is_mandatory is_forbidden all_items all_arcs ends_mandatory is_forced is_required required arc_minutes arc_head read_arc read_mark read_marks read_arcs header_limit header_target header_source header_arcs read_header read_sheet rest_of past lead_of lead content service_of served_arc served sheet_on no_service read_service some_service read_services read_page complete page meant taken zeros slip_numbers slip_bytes marks_bytes greedy reasons fits_sheet unmet verdict_from verdict is_pruned new_mark new_marks reasons_for slip_for pass_slip answer_of pass_on prunes reason_in reason_on
+unfolding sheet_b member keep add span after last_group above read_groups read_number judged number several write_groups write_number write_numbers lesser within tail_of head_of weight_of arc_item chain items len clear meets fit begin onward chains against least_of least fits mark_of is_open is_mandatory is_forbidden all_items all_arcs ends_mandatory is_forced is_required required arc_minutes arc_head read_arc read_mark read_marks read_arcs header_limit header_target header_source header_arcs read_header read_sheet rest_of past lead_of lead content service_of served_arc served sheet_on no_service read_service some_service read_services read_page complete page meant taken zeros slip_numbers slip_bytes marks_bytes greedy reasons fits_sheet unmet verdict_from verdict is_pruned new_mark new_marks reasons_for slip_for pass_slip answer_of pass_on prunes reason_in reason_on
 star = (refl, refl, refl, refl, refl, refl, refl, refl, refl, refl, refl, refl, refl, refl, refl, refl)

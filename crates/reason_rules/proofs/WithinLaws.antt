@@ -45,7 +45,6 @@ unfolding reasoned
 reason_refuses sheet work slip i = call_number ReasonNumber (reason_on sheet i) work slip (λ e h. inl h) (λ e z. inr (reason_refused sheet i e z))
 
 fits : {e : ℕ} → AmongThese reason_refusals e → (1 ≤ e) × (e ≤ 16)
-unfolding every
 fits d = these_fit reason_refusals 16 refl (omega arith) d
 
 pub reason_within : (sheet : List ℕ) (i : ℕ) → Within (reason_on sheet i)

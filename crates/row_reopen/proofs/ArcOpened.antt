@@ -10,6 +10,7 @@ use mathlib.Core.List.{List, []}
 use native.Mathlib.Omega.{arith}
 use native.Mathlib.Decide.{ℕ_discrete}
 use lib.ListN.{get_or, set, length-set}
+use Rattle.walks.specs.declared.arc.Arc.{Arc}
 use Rattle.walks.specs.Graph.{len, least}
 use Rattle.walks.specs.Lengths.{Least, none, some}
 use Rattle.walks.proofs.Join.{meets_none}
@@ -26,7 +27,7 @@ use Rattle.row_spread.specs.Active.{Mendable}
 use Rattle.walks.proofs.OpenedLaws.{open_other, opens}
 use Rattle.row_links.proofs.PackOpened.{open_before}
 
-pub proper_opened : (n : ℕ) (xs marks : List ℕ) (i : ℕ) → Proper (net_of n xs marks) → Proper (net_of n xs (set marks i 0))
+pub proper_opened : (n : ℕ) (xs : List Arc) (marks : List ℕ) (i : ℕ) → Proper (net_of n xs marks) → Proper (net_of n xs (set marks i 0))
 proper_opened n xs marks i p = record { few = p.few; marked = omega (arith, p.marked, length-set marks i 0); tails = p.tails; heads = p.heads }
 
 -- no open arc can cut an entry of a row of least lengths
@@ -53,14 +54,14 @@ module _ (N : Net) (cap s : ℕ) (d : List ℕ) (small : cap < missing) (p : Pro
   unfolding len
   row_begun h o = let z = short s 0 h ([], record { node = h; open_node = o; there = refl }, refl) (omega arith) in omega arith
 
-module _ (n : ℕ) (xs marks : List ℕ) (l : ℕ) (p : Proper (net_of n xs marks)) (below : l < arc_count xs) where
+module _ (n : ℕ) (xs : List Arc) (marks : List ℕ) (l : ℕ) (p : Proper (net_of n xs marks)) (below : l < arc_count xs) where
   abbrev now : Net
   now = net_of n xs marks
 
   abbrev then : Net
   then = net_of n xs (set marks (n + l) 0)
 
-  pub row_kept : (cap s : ℕ) (d ys : List ℕ) → cap < missing → s < n → Packed then ys
+  pub row_kept : (cap s : ℕ) (d : List ℕ) (ys : List Arc) → cap < missing → s < n → Packed then ys
       → (closed then (head_in xs l) ≡ false → Tried cap d (tail_in xs l) (head_in xs l) (weight_in xs l)) → RowIs now cap s d → RowIs then cap s d
   row_kept cap s d ys small hs P t R = row_is then cap ys d P settled s small good
     where
@@ -84,8 +85,8 @@ module _ (n : ℕ) (xs marks : List ℕ) (l : ℕ) (p : Proper (net_of n xs mark
           rw (a.3.tail, a.3.head, a.3.weight) (tried a.0 a.1 (ℕ_discrete a.0 l) a.2)
 
   -- and where it can, only its tail need be active
-  pub row_mendable : (cap s : ℕ) (d ys : List ℕ) (active : ℕ) → cap < missing → s < n → Packed then ys → bit_of active (tail_in xs l) ≡ 1 → RowIs now cap s d
-      → Mendable cap ys (set marks (n + l) 0) s active d
+  pub row_mendable : (cap s : ℕ) (d : List ℕ) (ys : List Arc) (active : ℕ) → cap < missing → s < n → Packed then ys
+      → bit_of active (tail_in xs l) ≡ 1 → RowIs now cap s d → Mendable cap ys (set marks (n + l) 0) s active d
   row_mendable cap s d ys active small hs P o R = record { still = record { tried = still }; begun = λ b. begun (ℕ_discrete (get_or (set marks (n + l) 0) s 0) 2) }
     where
       tried : (i : ℕ) → i < arc_count xs → Dec (i ≡ l) → Open then i → bit_of active (tail_in xs i) ≡ 0 → Tried cap d (tail_in xs i) (head_in xs i) (weight_in xs i)
@@ -102,8 +103,8 @@ module _ (n : ℕ) (xs marks : List ℕ) (l : ℕ) (p : Proper (net_of n xs mark
       begun (no q) = inr (row_begun now cap s d small p R hs (sym (open_other marks (n + l) s (λ e. absurd (omega arith))) ∙ ne_eqb _ _ q))
 
 -- the same once a node v is opened, for the tails of the arcs that enter it
-module _ (n : ℕ) (xs marks : List ℕ) (v : ℕ) (p : Proper (net_of n xs marks)) (node : v < n) where
-  pub node_mendable : (cap s : ℕ) (d ys : List ℕ) (active : ℕ) → cap < missing → s < n → Packed (net_of n xs (set marks v 0)) ys
+module _ (n : ℕ) (xs : List Arc) (marks : List ℕ) (v : ℕ) (p : Proper (net_of n xs marks)) (node : v < n) where
+  pub node_mendable : (cap s : ℕ) (d : List ℕ) (ys : List Arc) (active : ℕ) → cap < missing → s < n → Packed (net_of n xs (set marks v 0)) ys
       → Entering (arc_count ys) ys v active → RowIs (net_of n xs marks) cap s d → Mendable cap ys (set marks v 0) s active d
   node_mendable cap s d ys active small hs P E R = record {
     still = record { tried = still };

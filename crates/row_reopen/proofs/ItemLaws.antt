@@ -6,6 +6,7 @@ use mathlib.Core.List.{List}
 use native.Mathlib.Omega.{arith}
 use borrow.Author.Tests.{lt-ltb, le-ltb}
 use lib.ListN.{length}
+use Rattle.walks.specs.declared.arc.Arc.{Arc}
 use Rattle.walks.specs.Graph.{closed_in}
 use Rattle.rows.specs.Bits.{bit_of}
 use Rattle.rows.specs.Held.{missing}
@@ -14,7 +15,7 @@ use Rattle.row_reopen.specs.Openings.{change_of, arc_at, Saves, Spared, RowsAway
 use Rattle.row_reopen.proofs.RowsOpened.{opened_starts, opened_sound, opened_mendable, arc_kept, arc_shut, arc_mendable}
 use Rattle.row_reopen.proofs.SavesLaws.{saves_shut}
 
-module _ (n : ℕ) (xs : List ℕ) (i cap : ℕ) (marks ys starts work after : List ℕ) (kept active : ℕ) (small : cap < missing) where
+module _ (n : ℕ) (xs : List Arc) (i cap : ℕ) (marks : List ℕ) (ys : List Arc) (starts work after : List ℕ) (kept active : ℕ) (small : cap < missing) where
   pub item_node : i < n → Entering (arc_count ys) ys i active → Saves (length starts) cap (change_of true 0 0 0) work after kept
       → RowsMended cap ys marks starts active (change_of true 0 0 0) work after → RowsAway (length starts) ys starts work after
       → Spared (length starts) cap (change_of true 0 0 0) work kept → ItemOpened n xs i cap marks ys starts work after kept
@@ -53,8 +54,8 @@ module _ (n : ℕ) (xs : List ℕ) (i cap : ℕ) (marks ys starts work after : L
       shut = λ _ q. absurd (true≢false (sym q ∙ o));
     }
 
-pub item_shut : (n : ℕ) (xs : List ℕ) (i cap : ℕ) (marks ys starts work : List ℕ) → cap < missing → n ≤ i → closed_in marks (head_in xs (i - n)) ≡ true
-    → ItemOpened n xs i cap marks ys starts work work 0
+pub item_shut : (n : ℕ) (xs : List Arc) (i cap : ℕ) (marks : List ℕ) (ys : List Arc) (starts work : List ℕ) → cap < missing → n ≤ i
+    → closed_in marks (head_in xs (i - n)) ≡ true → ItemOpened n xs i cap marks ys starts work work 0
 item_shut n xs i cap marks ys starts work small arc q = record {
   rows = λ old O R. arc_shut O (i - n) cap work (omega arith) small R q;
   saves = rw (le-ltb i n arc) (saves_shut cap (arc_at xs (i - n)) work (length starts) (λ e. absurd (false≢true e)));

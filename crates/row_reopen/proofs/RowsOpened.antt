@@ -8,6 +8,7 @@ use native.Mathlib.Omega.{arith}
 use native.Mathlib.Decide.{ℕ_discrete}
 use lib.Bits.{bit_or}
 use lib.ListN.{length, get_or, set}
+use Rattle.walks.specs.declared.arc.Arc.{Arc}
 use Rattle.walks.specs.Graph.{closed_in}
 use Rattle.walks.proofs.OpenedLaws.{opens}
 use Rattle.rows.specs.Bits.{bit_of, alone}
@@ -20,7 +21,7 @@ use Rattle.rows.proofs.WorkLaws.{row_entry, rows_sound}
 use Rattle.row_reopen.specs.Openings.{arc_at, Kept, RowsMendable, Entering, Opened}
 use Rattle.row_reopen.proofs.ArcOpened.{proper_opened, row_kept, row_mendable, node_mendable}
 
-module _ {n : ℕ} {xs old : List ℕ} {i : ℕ} {marks ys starts : List ℕ} (O : Opened n xs old i marks ys starts) where
+module _ {n : ℕ} {xs : List Arc} {old : List ℕ} {i : ℕ} {marks : List ℕ} {ys : List Arc} {starts : List ℕ} (O : Opened n xs old i marks ys starts) where
   pub opened_proper : Proper (net_of n xs marks)
   opened_proper = rw O.opened (proper_opened n xs old i O.proper)
 
@@ -73,10 +74,10 @@ module _ {n : ℕ} {xs old : List ℕ} {i : ℕ} {marks ys starts : List ℕ} (O
         (row_at_lem j h))
 
 -- the nodes whose arcs enter a node
-pub entering_begun : (ys : List ℕ) (v : ℕ) → v < 64 → Entering 0 ys v (alone v)
+pub entering_begun : (ys : List Arc) (v : ℕ) → v < 64 → Entering 0 ys v (alone v)
 entering_begun ys v h = record { own = bit_own v h; tails = λ j l. absurd (omega arith); only = λ x n f. bit_other v x h n }
 
-pub entering_more : (i : ℕ) (ys : List ℕ) (v a r : ℕ) → tail_in ys i < 64 → Entering i ys v a
+pub entering_more : (i : ℕ) (ys : List Arc) (v a r : ℕ) → tail_in ys i < 64 → Entering i ys v a
     → ((head_in ys i ≡ v) × (r ≡ bit_or a (alone (tail_in ys i)))) ⊎ ((head_in ys i ≡ v → ⊥) × (r ≡ a)) → Entering (i + 1) ys v r
 entering_more i ys v a r h E (inl w) = rw w.1 (record { own = added_kept a (tail_in ys i) v E.own; tails = λ j l. tails j (ℕ_discrete j i) l; only = only })
   where

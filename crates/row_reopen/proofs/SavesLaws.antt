@@ -11,6 +11,7 @@ use lib.Bits.{bit_or}
 use lib.ListN.{length, get_or, take, drop, length-drop, length-append}
 use lib.Seq.{ext_get_or, length-take-le, get_or-append-add, get_or-drop}
 use Rattle.rows.specs.Bits.{bit_of, alone}
+use Rattle.walks.specs.declared.arc.Arc.{Arc}
 use Rattle.walks.specs.Graph.{least}
 use Rattle.rows.specs.Held.{held}
 use Rattle.rows.specs.Net.{Net, graph, closed}
@@ -49,9 +50,6 @@ module _ (cap : ℕ) (C : Change) (work : List ℕ) where
 
       bit : (i : ℕ) → bit_of 0 i ≡ 1 → ⊥
       bit i b = omega (arith, b, off i)
-
-  pub saves_begun : Saves 0 cap C work work 0
-  saves_begun = saves_none 0 (λ _. refl)
 
   pub saves_shut : (n : ℕ) → (C.node ≡ true → ⊥) → Saves n cap C work work 0
   saves_shut n e = saves_none n (λ q. absurd (e q))
@@ -149,7 +147,7 @@ module _ (cap : ℕ) (C : Change) (work : List ℕ) where
     entry_before (left e t) i x l h = refl
     entry_before (mended t K) i x l h = K.other (i * 64 + x) (inl (omega arith)) (inl (omega arith))
 
-    pub away_before : {after : List ℕ} {r : ℕ} → Mends n cap C kept mid after r → (ys starts : List ℕ)
+    pub away_before : {after : List ℕ} {r : ℕ} → Mends n cap C kept mid after r → (ys : List Arc) (starts : List ℕ)
         → AwaySame ys (get_or starts n 0) (row_at mid n) (row_at after n) → RowsAway n ys starts work mid → RowsAway (n + 1) ys starts work after
     away_before {after} M ys starts R B i h x hx a = elim (ℕ_discrete i n) [
       | yes q ↦ rw q (sym (row_entry after n x hx) ∙ R x (rw q at a) ∙ row_entry mid n x hx ∙ S.beside (n * 64 + x) (omega arith) (omega arith))

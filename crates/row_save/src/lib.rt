@@ -6,7 +6,7 @@ ghost use Rattle.std.specs.Int.Bits.{bit_or};
 ghost use Rattle.rows.specs.Bits.{bit_of, alone};
 ghost use Rattle.row_save.specs.Kept.{RowPut, PutBack};
 ghost use Rattle.rows.specs.Rows.{scratch_numbers};
-ghost use Rattle.row_save.specs.Unmoved.{Entered, Stays, UnmovedAt, Unmoved, Moved};
+ghost use Rattle.row_save.specs.Unmoved.{Entered, UnmovedAt, Unmoved, Moved};
 
 use rows::{ENTRIES, ROW_LENGTH};
 

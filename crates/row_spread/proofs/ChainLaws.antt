@@ -1,13 +1,14 @@
 -- Arcs chained by an end of theirs: from a node's number on exactly the arcs with their end there are met. Assumes nothing.
 use Prim.Native.Nat.{ℕ, zero, suc, ◌+◌, ◌≤◌, ◌<◌}
 use mathlib.Core.Path.{◌≡◌, refl, sym, ap, ◌∙◌}
-use mathlib.Core.List.{List}
+use mathlib.Core.List.{List, ◌++◌}
 use native.Mathlib.Omega.{arith}
 use native.Mathlib.Decide.{ℕ_discrete}
 use borrow.Author.Tests.{eq-eqb, ne_eqb}
 use lib.Dec.{eqb}
-use lib.ListN.{length, get_or, set, replicate, length-set, get_or-replicate}
-use lib.Seq.{get_or-set_same, get_or-set_other}
+use lib.ListN.{length, get_or, set, drop, replicate, length-set, length-append, length-replicate, get_or-append, get_or-replicate}
+use lib.Seq.{get_or-set_same, get_or-set_other, drop-set-lt}
+use Rattle.lists.proofs.FrontLaws.{drop_further}
 use Rattle.row_spread.specs.Arcs.{whether, last_at, ChainedBy}
 
 module _ (end : ℕ → ℕ) (u : ℕ) where
@@ -50,14 +51,18 @@ module _ (end : ℕ → ℕ) (u : ℕ) where
       go (no p) (no d) f = f (omega arith) (omega (arith, last_there i p))
 
 module _ (end : ℕ → ℕ) where
-  pub chain_begun : ChainedBy end 0 (replicate 576 0)
+  -- no arc is chained yet: the first 64 numbers are cleared
+  pub chain_begun : (zs rest : List ℕ) → zs ≡ replicate 64 0 → length rest ≡ 512 → ChainedBy end 0 (zs ++ rest)
   unfolding last_at
-  chain_begun = record {
+  chain_begun zs rest z long = record {
     few = omega arith;
-    long = refl;
-    lasts = λ u h. get_or-replicate {A = ℕ} 576 u 0 0 (omega arith);
+    long = length-append zs rest ∙ omega (arith, size);
+    lasts = λ u h. get_or-append zs rest 0 u (omega (arith, size)) ∙ ap (λ (l : List ℕ). get_or l u 0) z ∙ get_or-replicate {A = ℕ} 64 u 0 0 h;
     befores = λ i h. absurd (omega arith);
   }
+    where
+      size : length zs ≡ 64
+      size = ap length z ∙ length-replicate {A = ℕ} 64 0
 
   -- arc i is put before those that have the same end
   pub chain_more : {i : ℕ} {chains : List ℕ} → end i < 64 → i < 512 → ChainedBy end i chains
@@ -96,11 +101,11 @@ module _ (end : ℕ → ℕ) where
           ∙ get_or-set_other chains (64 + i) (64 + k) (get_or chains (end i) 0) 0 (λ e. omega arith) ∙ C.befores k (omega arith)
 
   -- what is behind is as it was
-  pub chain_behind : (i : ℕ) (chains : List ℕ) → end i < 64 → (k : ℕ) → 64 + i < k
-      → get_or (set (set chains (64 + i) (get_or chains (end i) 0)) (end i) (i + 1)) k 0 ≡ get_or chains k 0
-  chain_behind i chains ht k h =
-      get_or-set_other (set chains (64 + i) (get_or chains (end i) 0)) (end i) k (i + 1) 0 (λ e. omega arith)
-      ∙ get_or-set_other chains (64 + i) k (get_or chains (end i) 0) 0 (λ e. omega arith)
+  pub chain_behind : (i : ℕ) (chains d : List ℕ) → end i < 64 → drop (64 + i) chains ≡ drop (64 + i) d
+      → drop (64 + (i + 1)) (set (set chains (64 + i) (get_or chains (end i) 0)) (end i) (i + 1)) ≡ drop (64 + (i + 1)) d
+  chain_behind i chains d ht e =
+      drop-set-lt (64 + (i + 1)) (set chains (64 + i) (get_or chains (end i) 0)) (end i) (i + 1) (omega arith)
+      ∙ drop-set-lt (64 + (i + 1)) chains (64 + i) _ (omega arith) ∙ drop_further (64 + i) (64 + (i + 1)) chains d (omega arith) e
 
   -- the laws of the numbers of a chain
   module _ {m : ℕ} {chains : List ℕ} (C : ChainedBy end m chains) where

@@ -9,6 +9,7 @@ use lib.ListN.{length, get_or, set}
 use lib.Seq.{get_or-set_same, get_or-set_other}
 use lib.Bits.{bit_or, bit_xor}
 use mathlib.Core.Bool.{Bool, true, false, true≢false, false≢true}
+use Rattle.walks.specs.declared.arc.Arc.{Arc}
 use Rattle.rows.specs.Net.{arc_count, tail_in, head_in, weight_in}
 use Rattle.rows.specs.Rows.{total, Tried, ArcTried, same, cut, Started, Keeps, AwaySame}
 use Rattle.rows.proofs.RowLaws.{Fits, falls, keep}
@@ -30,7 +31,7 @@ tries_more k (fell t) (idle q) = fell t
 tries_more {d} {e} {f} k (fell t) (fell s) = let l : total f < total d = omega arith in fell l
 
 -- what trying an arc gives
-module _ {cap : ℕ} {xs : List ℕ} {i : ℕ} {d : List ℕ} {active : ℕ} (heads : head_in xs i < 64) where
+module _ {cap : ℕ} {xs : List Arc} {i : ℕ} {d : List ℕ} {active : ℕ} (heads : head_in xs i < 64) where
   pub added_none : {e : List ℕ} {b : Bool} → b ≡ false → ArcTried cap xs d i e b → Added cap xs i d active e active
   added_none q (same t) = none t
   added_none q (cut c lt) = absurd (true≢false q)
@@ -48,11 +49,11 @@ added_less r active h o a x z = go (ℕ_discrete x h)
     go (no q) = sym (a x q) ∙ z
 
 -- the arcs of u from number k on are tried, and those of all other nodes that are not active
-pub record Waiting (cap : ℕ) (xs : List ℕ) (active u k : ℕ) (d : List ℕ) : Type 0 where
+pub record Waiting (cap : ℕ) (xs : List Arc) (active u k : ℕ) (d : List ℕ) : Type 0 where
   pub tried : (j : ℕ) → j < arc_count xs → bit_of active (tail_in xs j) ≡ 0 → (tail_in xs j ≡ u → k ≤ j)
       → Tried cap d (tail_in xs j) (head_in xs j) (weight_in xs j)
 
-module _ {cap : ℕ} {xs : List ℕ} {i : ℕ} {d : List ℕ} {active : ℕ} (f : Fits xs d i) where
+module _ {cap : ℕ} {xs : List Arc} {i : ℕ} {d : List ℕ} {active : ℕ} (f : Fits xs d i) where
   pub added_tries : {e : List ℕ} {r : ℕ} → Added cap xs i d active e r → Tries d (r ≡ active) e
   added_tries (none t) = idle refl
   added_tries (more c lt o l) = fell (falls d (head_in xs i) (get_or d (tail_in xs i) 0 + weight_in xs i) (total d) f.head_in_lem lt (omega arith))
@@ -109,7 +110,7 @@ module _ {cap : ℕ} {xs : List ℕ} {i : ℕ} {d : List ℕ} {active : ℕ} (f 
       go (more {r = r} c lt o a) = record { tried = λ j h b l. cuts r lt o (added_less r active (head_in xs i) o a) j (ℕ_discrete j i) h b l }
 
 -- a node's arcs: none is tried yet, and all are
-module _ (xs : List ℕ) {chains : List ℕ} (C : Chained xs chains) where
+module _ (xs : List Arc) {chains : List ℕ} (C : Chained xs chains) where
   pub waits_begun : {cap active u : ℕ} {d : List ℕ} → u < 64 → Still cap xs active d → Waiting cap xs (bit_xor active (alone u)) u (get_or chains u 0) d
   waits_begun {cap} {active} {u} {d} hu S = record { tried = λ j h b l. go j h b l (ℕ_discrete (tail_in xs j) u) }
     where
@@ -147,7 +148,7 @@ turn_less {d} {e} u left r h o (fell t) = omega (arith, card_small r 64)
 turn_less {d} u left r h o (idle b) = omega (arith, card_less left r b.1 u o b.0 64 h)
 
 -- the start is set
-module _ {cap : ℕ} {xs marks : List ℕ} {s active : ℕ} {d row : List ℕ} (M : Mendable cap xs marks s active d) (room : s < length d) where
+module _ {cap : ℕ} {xs : List Arc} {marks : List ℕ} {s active : ℕ} {d row : List ℕ} (M : Mendable cap xs marks s active d) (room : s < length d) where
   pub mend_begun : Started marks s d row → Still cap xs active row
   mend_begun (inr w) = rw w.1 M.still
   mend_begun (inl w) = rw w.1 (record { tried = tried })

@@ -1,9 +1,8 @@
 // A row mended from a few nodes on, by the arcs that leave them, chained by their tails.
 #![tactic(auto)]
 
-ghost use Rattle.std.specs.Prelude.{◌≡◌, ℕ, ◌+◌, ◌*◌, ◌≤◌, ◌<◌, length, get_or, Option, Some, None, IfSome};
+ghost use Rattle.std.specs.Prelude.{◌≡◌, ℕ, ◌+◌, ◌≤◌, ◌<◌, length, get_or, set, drop, Option, Some, None, IfSome};
 ghost use lib.Count.{count_trailing_zeros};
-ghost use Rattle.rows.specs.Held.{missing};
 ghost use Rattle.rows.specs.Net.{arc_count, Joins};
 ghost use Rattle.rows.specs.Rows.{Keeps, Settled, AwaySame};
 ghost use Rattle.rows.specs.Bits.{bit_of};
@@ -11,40 +10,51 @@ ghost use Rattle.row_spread.specs.Active.{Still, Nearest, Tries, Added, Mended};
 ghost use Rattle.row_spread.specs.Arcs.{Chained};
 
 use rows::ROW_LENGTH;
+use rows::cap::Cap;
 use walks::ARCS;
+use walks::arc::Arc;
+use walks::mark::Mark;
 
 // The numbers of the arcs chained by their tails, one for each node and one for each arc.
 pub const CHAIN_NUMBERS: usize = ROW_LENGTH + ARCS;
 
-// Chains the arcs by their tails: number `u` leads to the last arc that leaves node `u`, number 64 + `i` from arc `i` to the one before it.
-pub fn chained(arcs: &[u32]) -> [u32; CHAIN_NUMBERS]
-    requires { Joins 64 arcs.now × (length arcs.now ≤ 1536) }
-    ensures { let xs = arcs.now in
-        Chained xs result × ((i : ℕ) → 64 + arc_count xs ≤ i → get_or result i 0 ≡ 0) }
+// Puts the arc in front of its tail's chain.
+pub fn chain_arc(chains: &mut [u32], tail: usize, arc: usize)
+    requires { (length chains.old ≡ 576) × (tail < 64) × (arc < 512) }
+    ensures { let d = chains.old in
+        chains.new ≡ set (set d (64 + arc) (get_or d tail 0)) tail (arc + 1) }
 {
-    let mut chains = [0u32; CHAIN_NUMBERS];
-    for arc in 0..arcs.len() / 3 {
-        let tail = arcs[arc * 3] as usize;
-        chains[ROW_LENGTH + arc] = chains[tail];
-        chains[tail] = arc as u32 + 1;
+    chains[ROW_LENGTH + arc] = chains[tail];
+    chains[tail] = arc as u32 + 1;
+}
+
+// Chains the arcs by their tails, whatever the chains held: number `u` leads to the last arc that leaves node `u`, number 64 + `i` from arc `i` to the
+// one before it. The numbers behind that of the last arc stay.
+pub fn chain(arcs: &[Arc], chains: &mut [u32])
+    requires { Joins 64 arcs.now × (length arcs.now ≤ 512) × (length chains.old ≡ 576) }
+    ensures arcs_chained { Chained arcs.now chains.new }
+    ensures behind_unchanged { let n = 64 + arc_count arcs.now in drop n chains.new ≡ drop n chains.old }
+{
+    chains[..ROW_LENGTH].fill(0);
+    for arc in 0..arcs.len() {
+        chain_arc(chains, arcs[arc].tail as usize, arc);
     }
-    chains
 }
 
 // Tries the arc. Where its head's entry is cut, the head is added to the active nodes: those whose arcs are to be tried, one bit each.
-fn try_adding(arcs: &[u32], row: &mut [u32], arc: usize, active: u64, cap: u32) -> u64
+fn try_adding(arcs: &[Arc], row: &mut [u32], arc: usize, active: u64, cap: u32) -> u64
     requires { Joins 64 arcs.now × (length row.old ≡ 64) × (arc < arc_count arcs.now) }
     ensures { Added cap arcs.now arc row.old active row.new result }
 {
     if rows::try_arc(arcs, row, arc, cap) {
-        return active | 1u64 << arcs[arc * 3 + 1];
+        return active | 1u64 << arcs[arc].head;
     }
     active
 }
 
 // Takes the active node off and tries the arcs that leave it.
 fn spread_node(
-    arcs: &[u32],
+    arcs: &[Arc],
     chains: &[u32],
     row: &mut [u32],
     node: usize,
@@ -99,7 +109,7 @@ fn nearest(row: &[u32], active: u64) -> usize
 
 // Tries the arcs outward from the active nodes, those of a node again where its entry was cut, until no node is active. The arcs of all other nodes
 // can cut no entry, so none can then. The nearest node goes first, so that a row takes the same time however the nodes are numbered.
-fn spread_active(arcs: &[u32], chains: &[u32], row: &mut [u32], active: u64, cap: u32)
+fn spread_active(arcs: &[Arc], chains: &[u32], row: &mut [u32], active: u64, cap: u32)
     requires { Joins 64 arcs.now × Chained arcs.now chains.now × (length row.old ≡ 64) }
     ensures good_stays_good { let xs = arcs.now in
         let d = row.old in
@@ -121,21 +131,20 @@ fn spread_active(arcs: &[u32], chains: &[u32], row: &mut [u32], active: u64, cap
 pub struct Mend {
     pub from: usize,
     pub active: u64,
-    pub cap: u32,
+    pub cap: Cap,
 }
 
 // Leaves in `row` the least length from the start to each node over the packed arcs; MISSING above the cap. The row comes in sound: each entry
 // MISSING or the length of such a walk, and no arc whose tail is not active can cut an entry. So is an empty row with its start active, and a row made
 // when more items were forbidden with the tails of the opened arcs active.
-pub fn mend_row(mend: Mend, arcs: &[u32], chains: &[u32], marks: &[u8], row: &mut [u32])
+pub fn mend_row(mend: Mend, arcs: &[Arc], chains: &[u32], marks: &[Mark], row: &mut [u32])
     requires arcs_chained { Joins 64 arcs.now × Chained arcs.now chains.now }
-    requires row_and_start_fit { (length row.old ≡ 64) × (mend.from < 64) × (mend.from < length marks.now) × (mend.cap < missing) }
+    requires row_and_start_fit { (length row.old ≡ 64) × (mend.from < 64) × (mend.from < length marks.now) }
     ensures { let xs = arcs.now in
         let d = row.old in
         let e = row.new in
         Mended mend.cap xs marks.now mend.from mend.active d e × AwaySame xs mend.from d e }
 {
-    let cap = mend.cap;
     rows::start(marks, mend.from, row);
-    spread_active(arcs, chains, row, mend.active, cap);
+    spread_active(arcs, chains, row, mend.active, mend.cap.length());
 }

@@ -6,6 +6,7 @@ use mathlib.Core.Bool.{Bool, false}
 use mathlib.Core.List.{List, [], ◌∷◌}
 use native.Mathlib.Omega.{arith}
 use Rattle.walks.proofs.LeastLaw.{Attained, is_least, fit_walk}
+use Rattle.walks.specs.declared.arc.Arc.{Arc}
 use Rattle.walks.specs.Graph.{Graph, head_of, closed_in, fit, least}
 use Rattle.walks.specs.Lengths.{Least, some}
 use Rattle.walks.specs.Walk.{Walk}
@@ -31,7 +32,7 @@ walk_opens G c c' o (l ∷ w) a b W = (
   walk_opens G c c' o w (head_of G l) b W.1,
 )
 
-pub sound_opens : (n : ℕ) (xs ms ms' : List ℕ) (cap s : ℕ) (d : List ℕ) → Opens (closed_in ms) (closed_in ms')
+pub sound_opens : (n : ℕ) (xs : List Arc) (ms ms' : List ℕ) (cap s : ℕ) (d : List ℕ) → Opens (closed_in ms) (closed_in ms')
     → Sound (net_of n xs ms) cap s d → Sound (net_of n xs ms') cap s d
 sound_opens n xs ms ms' cap s d o S = record {
   sound = λ v h f. let W = S.sound v h f in (W.0, walk_opens (graph (net_of n xs ms)) (closed_in ms) (closed_in ms') o W.0 s v W.1, W.2);

@@ -6,6 +6,7 @@ use native.Mathlib.Omega.{arith}
 use lib.ListN.{length, get_or, take, drop, length-append, get_or-append}
 use lib.Seq.{length-take-le, get_or-append-add, get_or-take, get_or-drop, drop_at, drop-drop}
 use borrow.Author.Count.{below_more}
+use Rattle.walks.specs.declared.arc.Arc.{Arc}
 use Rattle.rows.proofs.OpenLaws.{row_sound}
 use Rattle.rows.specs.Held.{missing}
 use Rattle.rows.specs.Net.{Net}
@@ -32,7 +33,7 @@ module _ (i : ℕ) (work ys zs : List ℕ) (room : i * 64 + 64 ≤ length work) 
       below_more _ i (λ j hj v hv. part_before (i * 64) (j * 64 + v) work (ys ++ zs) (omega arith) (omega arith) ∙ B j hj v hv)
       (λ v hv. part_in (i * 64) v work ys zs (omega arith) (omega arith) ∙ R v hv)
 
-  pub away_more : (xs starts : List ℕ) → AwayMissing xs (get_or starts i 0) ys → ((j : ℕ) → j < i → AwayMissing xs (get_or starts j 0) (row_at work j))
+  pub away_more : (xs : List Arc) (starts : List ℕ) → AwayMissing xs (get_or starts i 0) ys → ((j : ℕ) → j < i → AwayMissing xs (get_or starts j 0) (row_at work j))
       → (j : ℕ) → j < i + 1 → AwayMissing xs (get_or starts j 0) (row_at (take (i * 64) work ++ (ys ++ zs)) j)
   away_more xs starts R B =
       below_more _ i

@@ -1,15 +1,16 @@
 -- A graph and its marks as the code has them, and its open arcs in one list.
-use Rattle.std.specs.Prelude.{◌≡◌, List, Bool, false, ℕ, ◌+◌, ◌*◌, ◌/◌, ◌≤◌, ◌<◌, length, get_or, set}
+use Rattle.std.specs.Prelude.{◌≡◌, List, Bool, false, ℕ, ◌+◌, ◌≤◌, ◌<◌, length, get_or}
 use Rattle.walks.specs.Flat.{graph_of}
-use Rattle.walks.specs.Graph.{Graph, closed_in}
+use Rattle.walks.specs.declared.arc.Arc.{Arc}
+use Rattle.walks.specs.Graph.{Graph, no_arc, closed_in}
 
--- tail, head and weight of each arc in one list, and a mark for each item
+-- the arcs, and a mark for each item
 pub record Net : Type 0 where
   pub nodes : ℕ
-  pub arcs : List ℕ
+  pub arcs : List Arc
   pub marks : List ℕ
 
-abbrev pub net_of : ℕ → List ℕ → List ℕ → Net
+abbrev pub net_of : ℕ → List Arc → List ℕ → Net
 net_of n xs ms = record { nodes = n; arcs = xs; marks = ms }
 
 abbrev pub graph : Net → Graph
@@ -18,25 +19,23 @@ graph N = graph_of N.nodes N.arcs
 abbrev pub closed : Net → ℕ → Bool
 closed N = closed_in N.marks
 
--- the arcs of a list of three numbers each
-abbrev pub arc_count : List ℕ → ℕ
-arc_count xs = length xs / 3
+abbrev pub arc_count : List Arc → ℕ
+arc_count xs = length xs
 
-abbrev pub tail_in : List ℕ → ℕ → ℕ
-tail_in xs i = get_or xs (i * 3) 0
+abbrev pub tail_in : List Arc → ℕ → ℕ
+tail_in xs i = (get_or xs i no_arc).tail
 
-abbrev pub head_in : List ℕ → ℕ → ℕ
-head_in xs i = get_or xs (i * 3 + 1) 0
+abbrev pub head_in : List Arc → ℕ → ℕ
+head_in xs i = (get_or xs i no_arc).head
 
-abbrev pub weight_in : List ℕ → ℕ → ℕ
-weight_in xs i = get_or xs (i * 3 + 2) 0
-
--- arc i of a list stored anew
-abbrev pub arc_set : List ℕ → ℕ → ℕ → ℕ → ℕ → List ℕ
-arc_set xs i t h w = set (set (set xs (i * 3) t) (i * 3 + 1) h) (i * 3 + 2) w
+abbrev pub weight_in : List Arc → ℕ → ℕ
+weight_in xs i = (get_or xs i no_arc).weight
 
 abbrev pub count : Net → ℕ
 count N = arc_count N.arcs
+
+abbrev pub arc_at : Net → ℕ → Arc
+arc_at N i = get_or N.arcs i no_arc
 
 abbrev pub tail_at : Net → ℕ → ℕ
 tail_at N i = tail_in N.arcs i
@@ -54,12 +53,8 @@ pub record Proper (N : Net) : Type 0 where
   pub tails : (i : ℕ) → i < count N → tail_at N i < N.nodes
   pub heads : (i : ℕ) → i < count N → head_at N i < N.nodes
 
--- and at most 512 arcs of three numbers each
-abbrev pub Sized : Net → Type 0
-Sized N = Proper N × (length N.arcs ≤ 1536)
-
 -- the listed arcs join nodes below n
-abbrev pub Joins : ℕ → List ℕ → Type 0
+abbrev pub Joins : ℕ → List Arc → Type 0
 Joins n xs = (i : ℕ) → i < arc_count xs → (tail_in xs i < n) × (head_in xs i < n)
 
 -- arc i and its head are open
@@ -67,16 +62,16 @@ abbrev pub Open : Net → ℕ → Type 0
 Open N i = (closed N (N.nodes + i) ≡ false) × (closed N (head_at N i) ≡ false)
 
 -- arc j of the list has the numbers of arc i
-pub record SameArc (N : Net) (i : ℕ) (xs : List ℕ) (j : ℕ) : Type 0 where
+pub record SameArc (N : Net) (i : ℕ) (xs : List Arc) (j : ℕ) : Type 0 where
   pub tail : tail_in xs j ≡ tail_at N i
   pub head : head_in xs j ≡ head_at N i
   pub weight : weight_in xs j ≡ weight_at N i
 
 -- the first c arcs of the list are the open ones among the first n arcs, each once or more and in any order
-pub record PackedTo (N : Net) (n : ℕ) (xs : List ℕ) (c : ℕ) : Type 0 where
+pub record PackedTo (N : Net) (n : ℕ) (xs : List Arc) (c : ℕ) : Type 0 where
   pub all : (i : ℕ) → i < n → Open N i → (j : ℕ) × (j < c) × SameArc N i xs j
   pub only : (j : ℕ) → j < c → (i : ℕ) × (i < n) × Open N i × SameArc N i xs j
 
 -- the arcs of the list are the open ones
-abbrev pub Packed : Net → List ℕ → Type 0
+abbrev pub Packed : Net → List Arc → Type 0
 Packed N xs = PackedTo N (count N) xs (arc_count xs)

@@ -2,20 +2,18 @@
 
 ghost use Rattle.std.specs.Prelude.{◌≡◌, ◌+◌, ◌<◌, ◌↔◌, IsTrue};
 ghost use Rattle.walks.specs.Graph.{closed_in};
-ghost use Rattle.rows.specs.Net.{count, tail_at, head_at, weight_at, Open};
+ghost use Rattle.rows.specs.Net.{count, arc_at, tail_at, head_at, weight_at, Open};
 
 use std::marker::Model;
-use walks::FORBIDDEN;
+use walks::arc::Arc;
+use walks::mark::Mark;
 
-// How many numbers stand for an arc: tail, head and weight.
-const ARC_SIZE: usize = 3;
-
-// At most 64 nodes; at most 512 arcs between them, three numbers each; and a mark for each item, the nodes before the arcs.
+// At most 64 nodes, arcs between them, and a mark for each item, the nodes before the arcs.
 #[derive(Drop)]
 pub struct Net<'a> {
     pub nodes: usize,
-    pub arcs: &'a [u32],
-    pub marks: &'a [u8],
+    pub arcs: &'a [Arc],
+    pub marks: &'a [Mark],
 }
 
 impl<'a> Model for Net<'a> {
@@ -25,14 +23,23 @@ impl<'a> Model for Net<'a> {
 
     ghost view = { λ n. net.net_of n.nodes n.arcs.now n.marks.now };
 
-    ghost invariant = { λ n. net.Sized (net.net_of n.nodes n.arcs.now n.marks.now) };
+    ghost invariant = { λ n. net.Proper (net.net_of n.nodes n.arcs.now n.marks.now) };
 }
 
 impl<'a> Net<'a> {
     pub fn arc_count(&self) -> usize
         ensures { result ≡ count self.now }
     {
-        self.arcs.len() / ARC_SIZE
+        self.arcs.len()
+    }
+
+    // The arc itself.
+    pub fn arc(&self, arc: usize) -> Arc
+        requires { arc < count self.now }
+        ensures { result ≡ arc_at self.now arc }
+    {
+        let all = self.arcs;
+        all[arc]
     }
 
     // The node that the arc leaves.
@@ -41,7 +48,7 @@ impl<'a> Net<'a> {
         ensures { (result ≡ tail_at self.now arc) × (result < self.now.nodes) }
     {
         let arcs = self.arcs;
-        arcs[arc * ARC_SIZE] as usize
+        arcs[arc].tail as usize
     }
 
     // The node that the arc enters.
@@ -50,7 +57,7 @@ impl<'a> Net<'a> {
         ensures { (result ≡ head_at self.now arc) × (result < self.now.nodes) }
     {
         let arcs = self.arcs;
-        arcs[arc * ARC_SIZE + 1] as usize
+        arcs[arc].head as usize
     }
 
     pub fn weight(&self, arc: usize) -> u32
@@ -58,7 +65,7 @@ impl<'a> Net<'a> {
         ensures { result ≡ weight_at self.now arc }
     {
         let arcs = self.arcs;
-        arcs[arc * ARC_SIZE + 2]
+        arcs[arc].weight
     }
 
     // Whether the item is forbidden.
@@ -66,7 +73,7 @@ impl<'a> Net<'a> {
         requires { item < self.now.nodes + count self.now }
         ensures { result ≡ closed_in self.now.marks item }
     {
-        self.marks[item] == FORBIDDEN
+        self.marks[item].is_forbidden()
     }
 
     // Whether the arc and the node that it enters are open.

@@ -12,7 +12,7 @@ use Rattle.varint.proofs.AgainLaws.{number_again}
 use Rattle.varint.proofs.VarintLaws.{after_got, number_got, got_both, several_first}
 use Rattle.varint.proofs.WriteLaws.{numbers_rows}
 use Rattle.varint.specs.Varint.{Read, got, after, number, several, write_groups, write_number, write_numbers}
-use Rattle.walks.specs.Graph.{Arc}
+use Rattle.walks.specs.declared.arc.Arc.{Arc}
 use Rattle.walks.specs.Flat.{flat}
 use Rattle.sheet.proofs.BackLaws.{arc_numbers, flat_rows}
 use Rattle.sheet.proofs.LeadLaws.{Led, plain, led, led_is}

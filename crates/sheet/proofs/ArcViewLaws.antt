@@ -13,7 +13,8 @@ use lib.Dec.{ltb}
 use borrow.Author.Tests.{lt-ltb, le-ltb, ltb-true, ltb-false}
 use Rattle.varint.proofs.VarintLaws.{Front, number_got, judged_front, after_front, after_got, number_front, got_both, several_first}
 use Rattle.varint.specs.Varint.{Read, got, after, read_number, number, several, read_groups, refuse}
-use Rattle.walks.specs.Graph.{Graph, Arc, no_arc}
+use Rattle.walks.specs.declared.arc.Arc.{Arc}
+use Rattle.walks.specs.Graph.{Graph, no_arc}
 use Rattle.sheet.proofs.PageLaws.{count_on}
 use Rattle.sheet.proofs.SheetLaws.{several_got, content_says, page_got, page_of, page_taken}
 use Rattle.sheet.specs.ArcView.{bytes_of, for_arc, arc_view, place_of}

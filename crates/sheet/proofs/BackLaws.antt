@@ -10,7 +10,7 @@ use Rattle.lists.proofs.Pigeonhole.{Below, below_parts}
 use Rattle.lists.proofs.RowLaws.{Rows, just, just_rows}
 use Rattle.varint.proofs.VarintLaws.{number_back}
 use Rattle.varint.specs.Varint.{Read, got, refuse, after, judged, number, several, write_numbers}
-use Rattle.walks.specs.Graph.{Arc}
+use Rattle.walks.specs.declared.arc.Arc.{Arc}
 use Rattle.walks.proofs.FlatLaws.{flat_arcs, arcs_many}
 use Rattle.walks.specs.Flat.{arcs_of, flat}
 use Rattle.sheet.specs.Reader.{is_node_count, is_arc_count, is_node, is_other, is_limit, is_minutes, header_limit, header_target, header_source, header_arcs, read_header, arc_minutes, arc_head, read_arc}

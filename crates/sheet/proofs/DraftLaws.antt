@@ -21,11 +21,11 @@ use Rattle.sheet.proofs.BackLaws.{faulted, then_last, then_more, header_back, ar
 use Rattle.sheet.proofs.FaultLaws.{header_bounded}
 use Rattle.sheet.proofs.LeadLaws.{lead_one, lead_other}
 use Rattle.sheet.proofs.PageLaws.{required_served}
-use Rattle.sheet.specs.Draft.{header_numbers, with_services, Draft, plain_numbers, draft_numbers, draft_sheet, draft_page}
+use Rattle.sheet.specs.Draft.{header_numbers, with_services, Draft, plain_numbers, draft_numbers, draft_sheet, draft_page, DraftSized}
 use Rattle.sheet.specs.Lent.{zeros}
 use Rattle.sheet.specs.Page.{Page, no_service}
 use Rattle.sheet.specs.Reader.{is_mark, is_service, read_mark, read_marks, read_arcs, read_sheet, lead, content, read_service, some_service, read_services, read_page, complete, page}
-use Rattle.sheet.specs.Sheet.{required, Sized}
+use Rattle.sheet.specs.Sheet.{required}
 use Rattle.sheet.specs.Writer.{fault, first_of, header_fault, size_fault, arcs_fault, each_fault, marks_fault, services_fault, required_fault, draft_fault}
 
 -- The first of the faults: the lengths have none, and that of the service minutes is what their reading finds, where the header lets it come to that.
@@ -42,7 +42,7 @@ unfolding first_of
 first_alone zero = refl
 first_alone (suc a) = refl
 
-pub sized_fault : (d : Draft) → Sized d.header d.arcs d.marks → length d.services ≡ d.header.nodes → size_fault d ≡ 0
+pub sized_fault : (d : Draft) → DraftSized d → length d.services ≡ d.header.nodes → size_fault d ≡ 0
 unfolding size_fault fault
 sized_fault d s c = rw (eq-eqb _ _ s.0, eq-eqb _ _ s.1, eq-eqb _ _ c)
 
@@ -60,7 +60,7 @@ complete_back d = rw (required_served (draft_page d)) (pick_faulted 12 (leb (len
 content_fault : Draft → ℕ
 content_fault d = first_of (header_fault d.header) (first_of (arcs_fault d.header.nodes d.arcs) (marks_fault d.marks))
 
-module _ (d : Draft) (s : Sized d.header d.arcs d.marks) (B : Below 268435456 (plain_numbers d)) (t : List ℕ) where
+module _ (d : Draft) (s : DraftSized d) (B : Below 268435456 (plain_numbers d)) (t : List ℕ) where
   parts : Below 268435456 (header_numbers d.header) × Below 268435456 (d.arcs ++ d.marks)
   unfolding plain_numbers
   parts = below_parts 268435456 (header_numbers d.header) (d.arcs ++ d.marks) B
@@ -90,7 +90,7 @@ module _ (d : Draft) (s : Sized d.header d.arcs d.marks) (B : Below 268435456 (p
 
 -- service minutes that are all 0: as many zeros, without a fault
 none_zeros : (ss : List ℕ) → no_service ss ≡ true → (zeros (length ss) ≡ ss) × (services_fault ss ≡ 0)
-unfolding no_service every zeros each_fault fault first_of
+unfolding no_service zeros each_fault fault first_of
 none_zeros [] e = (refl, refl)
 none_zeros (x ∷ ss) e =
     let p = and_true (eqb x 0) (no_service ss) e in
@@ -103,7 +103,7 @@ pub form_is : (t : Bool) (n : ℕ) → 2 ≤ n → (t && not (eqb n 1)) ≡ t
 form_is true n l = rw (ne_eqb n 1 (λ e. omega arith))
 form_is false n l = refl
 
-module _ (d : Draft) (s : Sized d.header d.arcs d.marks) (c : length d.services ≡ d.header.nodes) where
+module _ (d : Draft) (s : DraftSized d) (c : length d.services ≡ d.header.nodes) where
   -- a page from its content and what is read behind it
   page_back : (bs t : List ℕ) (k x : ℕ) → lead bs ≡ k → content bs ≡ write_numbers (plain_numbers d ++ t) → Below 268435456 (plain_numbers d)
       → read_services k (draft_sheet d) (write_numbers t) ≡ faulted x (got (draft_page d) []) → (header_fault d.header ≡ 0 → x ≡ services_fault d.services)

@@ -13,8 +13,7 @@ use Rattle.lists.proofs.TestLaws.{and_true, pick_either}
 use Rattle.varint.proofs.WriteLaws.{small_below}
 use Rattle.varint.specs.Answer.{small}
 use Rattle.sheet.specs.declared.Header.{Header}
-use Rattle.sheet.specs.Sheet.{Sized}
-use Rattle.sheet.specs.Draft.{header_numbers, with_services, Draft, plain_numbers, draft_numbers}
+use Rattle.sheet.specs.Draft.{header_numbers, with_services, Draft, plain_numbers, draft_numbers, DraftSized}
 use Rattle.sheet.specs.Page.{no_service}
 use Rattle.sheet.specs.Reader.{is_mark, is_service}
 use Rattle.sheet.specs.Writer.{fault, first_of, header_fault, size_fault, arc_fault, arcs_fault, each_fault, required_fault, draft_fault}
@@ -87,7 +86,7 @@ served_below xs services b c = (omega arith, below_append 268435456 xs services 
 
 -- a draft without a fault
 pub record Faultless (d : Draft) : Type 0 where
-  pub sized : Sized d.header d.arcs d.marks
+  pub sized : DraftSized d
   pub count : length d.services ≡ d.header.nodes
   pub low : 2 ≤ d.header.nodes
   pub header : Below 268435456 (header_numbers d.header)

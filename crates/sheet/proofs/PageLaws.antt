@@ -10,7 +10,8 @@ use lib.Dec.{eqb, ltb}
 use borrow.Author.Tests.{eqb-true, ltb-true}
 use Rattle.lists.proofs.TestLaws.{and_true}
 use Rattle.lists.specs.Lists.{every, keep, span}
-use Rattle.walks.specs.Graph.{Arc, no_arc, tail_of, head_of, weight_of, arc_item, chain, touched, len}
+use Rattle.walks.specs.declared.arc.Arc.{Arc}
+use Rattle.walks.specs.Graph.{no_arc, tail_of, head_of, weight_of, arc_item, chain, touched, len}
 use Rattle.sheet.specs.Lent.{zeros}
 use Rattle.sheet.specs.Page.{service_of, served_arc, served, Page, sheet_on, no_service, service_over}
 use Rattle.sheet.specs.Sheet.{Sheet, is_mandatory, mark_of, all_items, all_arcs, ends_mandatory, is_forced, is_required, required}
@@ -99,7 +100,7 @@ module _ (P : Page) where
 
 -- where no service takes a minute, the page means what it says
 none_at : (ss : List ℕ) (p : ℕ) → no_service ss ≡ true → service_of ss p ≡ 0
-unfolding no_service service_of every
+unfolding no_service service_of
 none_at [] p e = refl
 none_at (x ∷ ss) zero e = eqb-true x 0 (and_true _ _ e).0
 none_at (x ∷ ss) (suc p) e = none_at ss p (and_true (eqb x 0) _ e).1
@@ -119,6 +120,6 @@ served_zero P e =
     (served_none P.services S.graph.arcs e)
 
 pub zeros_none : (n : ℕ) → no_service (zeros n) ≡ true
-unfolding no_service zeros every
+unfolding no_service zeros
 zeros_none zero = refl
 zeros_none (suc n) = zeros_none n

@@ -11,7 +11,8 @@ use Rattle.lists.proofs.TestLaws.{and_true, not_true}
 use Rattle.lists.specs.Lists.{pick}
 use Rattle.varint.proofs.VarintLaws.{after_got, number_got, got_both, several_first}
 use Rattle.varint.specs.Varint.{Read, got, refuse, after, number, several}
-use Rattle.walks.specs.Graph.{Graph, Arc, no_arc, tail_of, head_of, weight_of}
+use Rattle.walks.specs.declared.arc.Arc.{Arc}
+use Rattle.walks.specs.Graph.{Graph, no_arc, tail_of, head_of, weight_of}
 use Rattle.sheet.proofs.PageLaws.{served_count}
 use Rattle.sheet.specs.Good.{Good, GoodUpTo, ArcUpTo, GoodPage, All}
 use Rattle.sheet.specs.declared.Header.{Header}

@@ -17,7 +17,7 @@ use Rattle.varint.proofs.SizeLaws.{number_byte}
 use Rattle.varint.proofs.VarintLaws.{numbers_size}
 use Rattle.varint.proofs.WriteLaws.{numbers_rows, number_short}
 use Rattle.varint.specs.Varint.{got, write_groups, write_number, write_numbers}
-use Rattle.walks.specs.Graph.{Arc}
+use Rattle.walks.specs.declared.arc.Arc.{Arc}
 use Rattle.walks.specs.Flat.{arcs_of, flat}
 use Rattle.sheet.proofs.MarkLaws.{unmarked}
 use Rattle.sheet.proofs.FaultLaws.{draft_low}
@@ -137,9 +137,9 @@ longest_taken c e z l =
     (page_bytes (draft_page (page_draft (longest c))), draft_page (page_draft (longest c)), faultless_taken (page_draft (longest c)) (longest_faultless c e), z, l)
 
 pub longest_plain : Exactly true 3144
-unfolding longest page_bytes page_numbers no_service every sheet_numbers header_numbers header_of arcs_of flat write_numbers write_number write_groups each_fault fault first_of
+unfolding longest page_bytes page_numbers no_service sheet_numbers header_numbers header_of arcs_of flat write_numbers write_number write_groups each_fault fault first_of
 longest_plain = longest_taken 0 refl refl refl
 
 pub longest_served : Exactly false 3273
-unfolding longest page_bytes page_numbers with_services no_service every sheet_numbers header_numbers header_of arcs_of flat write_numbers write_number write_groups each_fault fault first_of
+unfolding longest page_bytes page_numbers with_services no_service sheet_numbers header_numbers header_of arcs_of flat write_numbers write_number write_groups each_fault fault first_of
 longest_served = longest_taken 600 refl refl refl

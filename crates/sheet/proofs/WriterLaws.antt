@@ -13,7 +13,7 @@ use Rattle.lists.specs.Lists.{pick}
 use Rattle.lists.proofs.Pigeonhole.{Below}
 use Rattle.varint.specs.Varint.{Read, got, write_numbers}
 use Rattle.walks.proofs.FlatLaws.{flat_arcs, arcs_flat, arcs_many, length_flat}
-use Rattle.walks.specs.Graph.{Arc}
+use Rattle.walks.specs.declared.arc.Arc.{Arc}
 use Rattle.walks.specs.Flat.{flat}
 use Rattle.sheet.proofs.AgainLaws.{Numbers, made, page_again}
 use Rattle.sheet.proofs.BackLaws.{faulted}
@@ -21,15 +21,15 @@ use Rattle.sheet.proofs.DraftLaws.{form_is, draft_back}
 use Rattle.sheet.proofs.FaultLaws.{faultless}
 use Rattle.sheet.proofs.SheetLaws.{page_got, page_good}
 use Rattle.sheet.specs.Answer.{finished, refused, fitted}
-use Rattle.sheet.specs.Draft.{header_numbers, sheet_numbers, page_numbers, page_bytes, Draft, page_draft, plain_numbers, draft_numbers, draft_sheet, draft_page}
+use Rattle.sheet.specs.Draft.{header_numbers, sheet_numbers, page_numbers, page_bytes, Draft, page_draft, plain_numbers, draft_numbers, draft_sheet, draft_page, DraftSized}
 use Rattle.sheet.specs.Good.{GoodPage}
 use Rattle.sheet.specs.Page.{Page, no_service}
 use Rattle.sheet.specs.Reader.{page}
-use Rattle.sheet.specs.Sheet.{header_of, Sized}
+use Rattle.sheet.specs.Sheet.{header_of}
 use Rattle.sheet.specs.Writer.{draft_fault, write_on}
 
 -- the numbers of the draft's sheet are the draft's, and so are those of its page, where the form is left to the service minutes
-module _ (d : Draft) (s : Sized d.header d.arcs d.marks) where
+module _ (d : Draft) (s : DraftSized d) where
   pub sheet_numbers_lem : sheet_numbers (draft_sheet d) ≡ plain_numbers d
   unfolding sheet_numbers header_of header_numbers plain_numbers
   sheet_numbers_lem = rw (arcs_many d.arcs d.header.arcs s.0, flat_arcs d.arcs d.header.arcs s.0)
@@ -106,7 +106,7 @@ module _ (bs : List ℕ) (P : Page) (B : Below 256 bs) (e : page bs ≡ got P []
   faultless_again =
       let g = page_good bs P [] e in
       let d = page_draft P in
-      let s : Sized (header_of P.says) (flat P.says.graph.arcs) P.says.marks = (length_flat P.says.graph.arcs, g.says.size) in
+      let s : DraftSized d = (length_flat P.says.graph.arcs, g.says.size) in
       let q : page_numbers P ≡ draft_numbers d = ap page_numbers (sym (draft_again P)) ∙ page_numbers_lem d s g.says.low in
       faulted_got (draft_fault d) (got (draft_page d) []) P []
       (sym (draft_back d s g.count (subst (Below 268435456) q numbers.small)) ∙ ap (λ (ns : List ℕ). page (write_numbers ns)) (sym q) ∙ ap page bytes_again ∙ e)

@@ -1,8 +1,8 @@
 -- The numbers of a sheet in their order and its bytes (document 01, 'Sheet and slip'; document 02, request 2.7), and drafts of a sheet.
-use Rattle.std.specs.Prelude.{ℕ, not, ◌&&◌, List, [], ◌∷◌, ◌++◌, eqb}
+use Rattle.std.specs.Prelude.{ℕ, ◌≡◌, ◌+◌, ◌*◌, not, ◌&&◌, List, [], ◌∷◌, ◌++◌, length, eqb}
 use Rattle.lists.specs.Lists.{pick}
 use Rattle.varint.specs.Varint.{write_numbers}
-use Rattle.walks.specs.Flat.{flat}
+use Rattle.walks.specs.Flat.{arcs_of, flat}
 use Rattle.sheet.specs.declared.Header.{Header}
 use Rattle.sheet.specs.Page.{Page, no_service}
 use Rattle.sheet.specs.Sheet.{Sheet, header_of, sheet_of}
@@ -37,13 +37,17 @@ pub record Draft : Type 0 where
 abbrev pub draft_of : Header → List ℕ → List ℕ → List ℕ → Draft
 draft_of h arcs marks services = record { header = h; arcs = arcs; marks = marks; services = services }
 
+-- its lists have the lengths that the header says: three numbers for each arc, and a mark for each item
+abbrev pub DraftSized : Draft → Type 0
+DraftSized d = (length d.arcs ≡ 3 * d.header.arcs) × (length d.marks ≡ d.header.nodes + d.header.arcs)
+
 -- the draft of a page's own numbers
 abbrev pub page_draft : Page → Draft
 page_draft P = draft_of (header_of P.says) (flat P.says.graph.arcs) P.says.marks P.services
 
 -- the sheet that its numbers make, and the page
 abbrev pub draft_sheet : Draft → Sheet
-draft_sheet d = sheet_of d.header d.arcs d.marks
+draft_sheet d = sheet_of d.header (arcs_of d.arcs) d.marks
 
 abbrev pub draft_page : Draft → Page
 draft_page d = record { says = draft_sheet d; services = d.services }

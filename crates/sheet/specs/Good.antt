@@ -1,13 +1,14 @@
 -- What holds of a sheet that was read (document 01, 'Map, walk, round': how many places and legs, which minutes, marks and limit; document 02, request 2.7).
-use Rattle.std.specs.Prelude.{ℕ, ◌≤◌, ◌<◌, ◌≡◌, List, [], ◌∷◌, length}
-use Rattle.walks.specs.Graph.{Arc, item_count}
+use Rattle.std.specs.Prelude.{ℕ, ◌≤◌, ◌<◌, ◌≡◌, List, length}
+use Rattle.std.specs.List.{AllByRecursion}
+use Rattle.walks.specs.declared.arc.Arc.{Arc}
+use Rattle.walks.specs.Graph.{item_count}
 use Rattle.sheet.specs.Page.{Page, sheet_on}
 use Rattle.sheet.specs.Sheet.{Sheet}
 
 -- each entry of the list has the property
 abbrev pub All : {A : Type 0} → (A → Type 0) → List A → Type 0
-All P [] = Unit {0}
-All P (x ∷ xs) = P x × All P xs
+All P xs = AllByRecursion P xs
 
 -- an arc of a graph of n nodes, of weight c at most
 pub record ArcUpTo (c n : ℕ) (x : Arc) : Type 0 where

@@ -1,7 +1,7 @@
 -- A sheet as it is written, and what it means (document 02, request 2.7). What a sheet says has minutes and service minutes apart; what it means has weights.
 use Rattle.std.specs.Prelude.{ℕ, ◌+◌, Bool, List, [], ◌∷◌, map, get_or, eqb}
 use Rattle.lists.specs.Lists.{every}
-use Rattle.walks.specs.Graph.{Arc}
+use Rattle.walks.specs.declared.arc.Arc.{Arc}
 use Rattle.sheet.specs.Sheet.{Sheet}
 
 -- the service minutes of a node

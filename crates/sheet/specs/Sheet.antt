@@ -1,6 +1,7 @@
 -- A sheet as it is read: graph, source, target (document 01: start, finish), limit and marks.
-use Rattle.std.specs.Prelude.{ℕ, ◌+◌, ◌*◌, ◌<◌, ◌≡◌, ◌⊎◌, Bool, true, false, not, ◌&&◌, ◌||◌, List, [], ◌∷◌, get_or, length, eqb, ltb}
+use Rattle.std.specs.Prelude.{ℕ, ◌+◌, ◌<◌, ◌≡◌, ◌⊎◌, Bool, true, false, not, ◌&&◌, ◌||◌, List, [], ◌∷◌, get_or, length, eqb, ltb}
 use Rattle.lists.specs.Lists.{keep, span}
+use Rattle.walks.specs.declared.arc.Arc.{Arc}
 use Rattle.walks.specs.Graph.{Graph, tail_of, head_of, arc_item, item_count, closed_in}
 use Rattle.walks.specs.Flat.{graph_of}
 use Rattle.sheet.specs.declared.Header.{Header}
@@ -17,14 +18,14 @@ unfoldable pub header_of : Sheet → Header
 header_of S =
     record { nodes = S.graph.nodes; arcs = length S.graph.arcs; source = S.source; target = S.target; limit = S.limit }
 
--- the sheet that the five numbers, the arcs' numbers and the marks make
-abbrev pub sheet_of : Header → List ℕ → List ℕ → Sheet
+-- the sheet that the five numbers, the arcs and the marks make
+abbrev pub sheet_of : Header → List Arc → List ℕ → Sheet
 sheet_of h arcs marks =
     record { graph = graph_of h.nodes arcs; source = h.source; target = h.target; limit = h.limit; marks = marks }
 
 -- the lists have the lengths that the header says
-abbrev pub Sized : Header → List ℕ → List ℕ → Type 0
-Sized h arcs marks = (length arcs ≡ 3 * h.arcs) × (length marks ≡ h.nodes + h.arcs)
+abbrev pub Sized : Header → List Arc → List ℕ → Type 0
+Sized h arcs marks = (length arcs ≡ h.arcs) × (length marks ≡ h.nodes + h.arcs)
 
 -- an item's mark: open 0, mandatory (must) 1, forbidden (shut) 2
 unfoldable pub mark_of : Sheet → ℕ → ℕ

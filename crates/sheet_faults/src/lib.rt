@@ -3,22 +3,27 @@
 
 #![tactic(auto)]
 
-ghost use Rattle.std.specs.Prelude.{◌≡◌, ◌≤◌, ◌&&◌, true, length, leb, OnOk};
+ghost use Rattle.std.specs.Prelude.{◌≡◌, ◌≤◌, ◌&&◌, ◌||◌, true, false, length, take, eqb, leb, OnOk};
 ghost use Rattle.std.specs.List.{fold};
 ghost use Rattle.varint.specs.Refusal.{number_in};
 ghost use Rattle.sheet.specs.Reader.{is_mark, is_service};
 ghost use Rattle.sheet.specs.Writer.{header_fault, arc_fault, arcs_fault, marks_fault, services_fault, size_fault, required_fault, draft_fault, first_of};
-ghost use Rattle.sheet.specs.Sheet.{Sized};
+ghost use Rattle.sheet.specs.Draft.{DraftSized};
 ghost use Rattle.sheet_faults.specs.Drafted.{drafted};
 
 use sheet::{Header, LIMIT_END, MINUTES_END, SERVICE_END};
+use sheet_required::arcs::Legs;
 use varint::Refusal;
-use walks::{ARCS, FORBIDDEN, NODES};
+use walks::mark::Mark;
+use walks::{ARCS, ITEMS, NODES};
 
 const NODES_LEAST: usize = 2;
 
+const MARK_GREATEST: u8 = 2;
+
 // The numbers that are to become a sheet, as they were lent: they may be of any size, and the lists of any length.
-#[derive(Clone, Copy)]
+// An arc is three numbers in a row and a mark a byte, as a program in C has them.
+#[derive(Clone, Copy, Debug, PartialEq, Eq)]
 pub struct Draft<'a> {
     pub header: Header,
     pub arcs: &'a [u32],
@@ -80,7 +85,14 @@ fn are_marks(marks: &[u8]) -> bool
 {
     marks
         .iter()
-        .fold(true, |all, &mark| all & (mark <= FORBIDDEN))
+        .fold(true, |all, &mark| all & (mark <= MARK_GREATEST))
+}
+
+// Whether some item is mandatory.
+fn some_mandatory(marks: &[u8]) -> bool
+    ensures { result ≡ fold (λ some m. some || eqb m 1) false marks.now }
+{
+    marks.iter().fold(false, |some, &mark| some | Mark::from(mark).is_mandatory())
 }
 
 // Whether no node's service minutes are too many.
@@ -92,13 +104,25 @@ fn are_services(services: &[u32]) -> bool
         .fold(true, |all, &minutes| all & (minutes < SERVICE_END))
 }
 
+// The marks that the bytes are. A loop over an array, as marks of a type of their own are not copied from bytes in one call.
+fn marks_of(bytes: &[u8]) -> [Mark; ITEMS]
+    requires { length bytes.now ≤ 576 }
+    ensures { take (length bytes.now) result ≡ bytes.now }
+{
+    let mut marks = [Mark::OPEN; ITEMS];
+    for i in 0..bytes.len() {
+        marks[i] = Mark::from(bytes[i]);
+    }
+    marks
+}
+
 impl Draft<'_> {
     // Judges the lengths of the lists.
     #[tactic(auto, unfolding(sheet::specs::Writer::size_fault, sheet::specs::Writer::fault))]
     fn size_fault(&self) -> Result<(), Refusal>
         requires { (self.now.header.nodes ≤ 64) × (self.now.header.arcs ≤ 512) }
         ensures first_fault { number_in result ≡ size_fault (drafted self.now) }
-        ensures sized { OnOk result (Sized self.now.header self.now.arcs.now self.now.marks.now) }
+        ensures sized { OnOk result (DraftSized (drafted self.now)) }
     {
         let header = self.header;
         if self.arcs.len() != 3 * header.arcs
@@ -121,14 +145,22 @@ impl Draft<'_> {
         }
     }
 
-    // Refused where more than eight items are required.
+    // Refused where more than eight items are required. Without a mandatory mark none is, and no marks are copied.
     #[tactic(auto, unfolding(sheet::specs::Writer::required_fault, sheet::specs::Writer::fault))]
     fn required_fault(&self) -> Result<(), Refusal>
-        requires lists_sized { Sized self.now.header self.now.arcs.now self.now.marks.now }
+        requires lists_sized { DraftSized (drafted self.now) }
         requires bounded { (self.now.header.nodes ≤ 64) × (self.now.header.arcs ≤ 512) }
         ensures { number_in result ≡ required_fault (drafted self.now) }
     {
-        if sheet_required::few(self.header, self.arcs, self.marks) {
+        if !some_mandatory(self.marks) {
+            return Ok(());
+        }
+        let marks = marks_of(self.marks);
+        if sheet_required::few(
+            self.header,
+            &Legs { numbers: self.arcs },
+            &marks[..self.marks.len()],
+        ) {
             Ok(())
         } else {
             Err(Refusal::Required)

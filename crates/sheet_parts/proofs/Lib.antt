@@ -1,2 +1,1 @@
-pub mod SectionLaws
 pub mod TakeLaws

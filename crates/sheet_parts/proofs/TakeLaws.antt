@@ -6,7 +6,7 @@ use mathlib.Core.Bool.{Bool, true, false, ◌&&◌}
 use lib.Dec.{leb, leb-suc-suc}
 use borrow.Author.Tests.{le-leb, lt-leb}
 use Rattle.varint.specs.Varint.{got, refuse, after, number, judged}
-use Rattle.walks.specs.Graph.{Arc}
+use Rattle.walks.specs.declared.arc.Arc.{Arc}
 use Rattle.sheet.specs.declared.Header.{Header}
 use Rattle.sheet.specs.Reader.{header_limit, header_target, header_source, header_arcs, read_header, arc_minutes, arc_head, read_arc}
 use Rattle.sheet_values.proofs.ReadLaws.{under, number_and, number_most, ends_then, first_not, second_not, second_same, third_not, third_read}

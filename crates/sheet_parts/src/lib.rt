@@ -2,17 +2,18 @@
 
 #![tactic(auto)]
 
-ghost use Rattle.std.specs.Prelude.{◌≡◌, ◌*◌, ◌≤◌, length, IfOk, IfErr, OnOk};
+ghost use Rattle.std.specs.Prelude.{◌≡◌, ◌≤◌, length, IfOk, IfErr, OnOk};
 ghost use Rattle.lists.specs.Lists.{front};
 ghost use Rattle.varint.specs.Varint.{got, refuse, several};
 ghost use Rattle.varint.specs.Refusal.{number_of};
-ghost use Rattle.walks.specs.Flat.{flat};
 ghost use Rattle.sheet.specs.Reader.{read_header, read_arc};
 ghost use Rattle.numbers.specs.Begun.{begun};
 ghost use Rattle.sheet_parts.specs.Fits.{Fits};
 
+use numbers::section::{self, Kind};
 use sheet::{Header, LIMIT_END, MINUTES_END};
 use varint::{Bytes, Refusal};
+use walks::arc::Arc;
 
 const NODES_LEAST: u32 = 2;
 
@@ -46,39 +47,41 @@ pub fn take_header(bytes: &mut Bytes) -> Result<Header, Refusal>
     })
 }
 
-// Takes an arc of a graph of `nodes` nodes: tail, head and minutes.
-fn take_arc(bytes: &mut Bytes, nodes: u32) -> Result<(u32, u32, u32), Refusal>
-    ensures got { IfOk result (λ a. read_arc nodes bytes.old.rest.now ≡ got (record { tail = a.0; head = a.1; weight = a.2 }) bytes.new.rest.now) }
-    ensures refused { IfErr result (λ why. read_arc nodes bytes.old.rest.now ≡ refuse (number_of why)) }
-{
-    let tail = bytes.take_below(nodes, Refusal::ArcEnd)?;
-    let head = bytes.take_below(nodes, Refusal::ArcEnd)?;
-    if head == tail {
-        return Err(Refusal::ArcEnd);
-    }
-    let minutes = bytes.take_below(MINUTES_END, Refusal::Minutes)?;
-    Ok((tail, head, minutes))
+// The arcs of a graph of `nodes` nodes.
+#[derive(Clone, Copy, Debug, PartialEq, Eq)]
+pub struct Arcs {
+    pub nodes: u32,
 }
 
-// Takes the arcs at the front of the leg section, which is handed on as `bytes`, and stores tail, head and minutes of each over the front of `arcs`, up to
-// the first that is refused. The loop is not `read_all`: three numbers are stored for each arc, in one list, as the length layer takes them.
+impl Kind for Arcs {
+    type Value = Arc;
+
+    ghost reads = { λ kind bs. read_arc kind.nodes bs };
+
+    fn take(&self, bytes: &mut Bytes) -> Result<Arc, Refusal> {
+        let tail = bytes.take_below(self.nodes, Refusal::ArcEnd)?;
+        let head = bytes.take_below(self.nodes, Refusal::ArcEnd)?;
+        if head == tail {
+            return Err(Refusal::ArcEnd);
+        }
+        let weight = bytes.take_below(MINUTES_END, Refusal::Minutes)?;
+        Ok(Arc { tail, head, weight })
+    }
+}
+
+// Takes the arcs at the front of the leg section, which is handed on as `bytes`, and stores them over the front of `arcs`, up to the first that is refused.
 pub fn take_arcs(
     bytes: &mut Bytes,
     nodes: u32,
     count: usize,
-    arcs: &mut [u32],
+    arcs: &mut [Arc],
 ) -> Result<(), Refusal>
-    requires { 3 * count ≤ length arcs.old }
+    requires { count ≤ length arcs.old }
     ensures got { let f = read_arc nodes in
         OnOk result (several f count bytes.old.rest.now ≡ got (begun f count bytes.old.rest.now) bytes.new.rest.now) }
     ensures refused { IfErr result (λ why. several (read_arc nodes) count bytes.old.rest.now ≡ refuse (number_of why)) }
-    ensures arcs_in_front { arcs.new ≡ front (flat (begun (read_arc nodes) count bytes.old.rest.now)) arcs.old }
+    ensures arcs_in_front { arcs.new ≡ front (begun (read_arc nodes) count bytes.old.rest.now) arcs.old }
 {
-    for i in 0..count {
-        let (tail, head, minutes) = take_arc(bytes, nodes)?;
-        arcs[i * 3] = tail;
-        arcs[i * 3 + 1] = head;
-        arcs[i * 3 + 2] = minutes;
-    }
+    section::read_all(&Arcs { nodes }, bytes, &mut arcs[..count])?;
     Ok(())
 }

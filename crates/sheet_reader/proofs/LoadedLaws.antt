@@ -1,5 +1,5 @@
 -- A sheet that was read: its numbers are whole, and they make the sheet that was taken. Assumes nothing.
-use Prim.Native.Nat.{ℕ, ◌+◌, ◌*◌, ◌/◌, ◌≤◌, ◌<◌}
+use Prim.Native.Nat.{ℕ, ◌+◌, ◌≤◌}
 use mathlib.Core.Path.{◌≡◌, refl, sym, ap, ◌∙◌, subst}
 use mathlib.Core.List.{List, [], ◌∷◌, ◌++◌}
 use native.Mathlib.Omega.{arith}
@@ -15,8 +15,6 @@ use Rattle.sheet_reader.proofs.TakenLaws.{Left, taken_begun}
 use Rattle.sheet_required.specs.Whole.{Whole}
 use Rattle.sheet_reader.specs.Answer.{answered, arcs_begun, marks_begun, services_begun, arcs_left}
 use Rattle.sheet_services.specs.Services.{Servable}
-use Rattle.rows.proofs.ArcLaws.{tail_at_lem, head_at_lem}
-use Rattle.rows.specs.Net.{net_of}
 use Rattle.sheet.proofs.PageLaws.{served_count}
 use Rattle.sheet.specs.Good.{Good, GoodPage, ArcUpTo, All}
 use Rattle.sheet.specs.Page.{service_of, served, Page, sheet_on}
@@ -24,41 +22,27 @@ use Rattle.sheet.proofs.SheetLaws.{all_get_d, page_got, page_good, page_of, page
 use Rattle.sheet.specs.Reader.{lead, content, page, meant, taken}
 use Rattle.sheet.specs.Sheet.{Sheet, required, sheet_of, header_of}
 use Rattle.varint.specs.Varint.{Read, got, refuse, after}
-use Rattle.walks.proofs.FlatLaws.{arcs_flat, length_flat}
-use Rattle.walks.specs.Flat.{graph_of, arcs_of, flat}
-use Rattle.walks.specs.Graph.{Arc, tail_of, head_of, Graph}
+use Rattle.walks.specs.declared.arc.Arc.{Arc}
+use Rattle.walks.specs.Graph.{tail_of, head_of}
 
--- arcs in one list of numbers make the same graph
-same_graph : (S : Sheet) → graph_of S.graph.nodes (flat S.graph.arcs) ≡ S.graph
-same_graph S = ap {B = Graph} (λ (xs : List Arc). record { nodes = S.graph.nodes; arcs = xs }) (arcs_flat S.graph.arcs)
-
-same_sheet : (S : Sheet) → sheet_of (header_of S) (flat S.graph.arcs) S.marks ≡ S
-unfolding header_of
-same_sheet S =
-    ap {B = Sheet} (λ (G : Graph). record { graph = G; source = S.source; target = S.target; limit = S.limit; marks = S.marks }) (same_graph S)
-
-module _ (S : Sheet) (g : Good S) where
-  counted : length (flat S.graph.arcs) / 3 ≡ length S.graph.arcs
-  counted = omega (arith, length_flat S.graph.arcs)
-
-  -- a sheet that was read has whole numbers
-  sheet_whole : length (required S) ≤ 8 → Whole (header_of S) (flat S.graph.arcs) S.marks
-  unfolding header_of
-  sheet_whole f = record {
-    proper = record {
-      few = g.nodes;
-      marked = omega (arith, counted, g.size);
-      tails = λ i h. subst (λ (x : ℕ). x < S.graph.nodes) (sym (ap (λ (G : Graph). tail_of G i) (same_graph S)) ∙ tail_at_lem (net_of S.graph.nodes (flat S.graph.arcs) S.marks) i h) (good_tail S g i (rw counted at h));
-      heads = λ i h. subst (λ (x : ℕ). x < S.graph.nodes) (sym (ap (λ (G : Graph). head_of G i) (same_graph S)) ∙ head_at_lem (net_of S.graph.nodes (flat S.graph.arcs) S.marks) i h) (good_head S g i (rw counted at h));
-    };
-    sized = (length_flat S.graph.arcs, g.size);
-    few = g.arcs;
-    source = g.source;
-    target = g.target;
-    limit = g.limit;
-    good = subst (λ (S : Sheet). Good S) (sym (same_sheet S)) g;
-    eight = rw (arcs_flat S.graph.arcs) f;
-  }
+-- a sheet that was read is whole
+sheet_whole : (S : Sheet) → Good S → length (required S) ≤ 8 → Whole (header_of S) S.graph.arcs S.marks
+unfolding header_of tail_of head_of
+sheet_whole S g f = record {
+  proper = record {
+    few = g.nodes;
+    marked = omega (arith, g.size);
+    tails = good_tail S g;
+    heads = good_head S g;
+  };
+  sized = (refl, g.size);
+  few = g.arcs;
+  source = g.source;
+  target = g.target;
+  limit = g.limit;
+  good = g;
+  eight = f;
+}
 
 -- the page of a sheet that a read took, and its header
 record Said (sheet : List ℕ) (h : Header) : Type 0 where
@@ -91,7 +75,7 @@ unfolding taken after
 unsaid_taken sheet w e = rw e
 
 -- so many numbers that were written over the front
-front_taken : (xs old : List ℕ) (n : ℕ) → length xs ≡ n → take n (front xs old) ≡ xs
+front_taken : {A : Type 0} (xs old : List A) (n : ℕ) → length xs ≡ n → take n (front xs old) ≡ xs
 front_taken xs old n e = take_at xs (drop (length xs) old) n e
 
 -- minutes and service minutes of a good page can be added
@@ -124,34 +108,33 @@ module _ (s : List ℕ) (P : Page) (t : page s ≡ got P []) (h : Header) (hs : 
       ap (take h.nodes) (v ∙ ap (λ (ss : List ℕ). front ss old) left.services) ∙ front_taken P.services old h.nodes service_count
 
   -- the arcs before the service minutes were added
-  module _ (old arcs : List ℕ) (a : arcs ≡ front (flat (arcs_begun (content s))) old) where
-    arcs_stand : arcs ≡ front (flat P.says.graph.arcs) old
-    arcs_stand = a ∙ ap (λ (xs : List Arc). front (flat xs) old) left.arcs
+  module _ (old arcs : List Arc) (a : arcs ≡ front (arcs_begun (content s)) old) where
+    arcs_stand : arcs ≡ front P.says.graph.arcs old
+    arcs_stand = a ∙ ap (λ (xs : List Arc). front xs old) left.arcs
 
-    arcs_held : arcs_of (take (3 * h.arcs) arcs) ≡ P.says.graph.arcs
-    arcs_held =
-        let xs = P.says.graph.arcs in
-        let n : length (flat xs) ≡ 3 * h.arcs = omega (arith, length_flat xs, arcs_are) in
-        ap (λ (ys : List ℕ). arcs_of (take (3 * h.arcs) ys)) arcs_stand ∙ ap arcs_of (front_taken (flat xs) old (3 * h.arcs) n) ∙ arcs_flat xs
+    arcs_held : take h.arcs arcs ≡ P.says.graph.arcs
+    arcs_held = ap (take h.arcs) arcs_stand ∙ front_taken P.says.graph.arcs old h.arcs (sym arcs_are)
 
-    held_servable : {ss : List ℕ} → ss ≡ P.services → All (Servable ss) (arcs_of (take (3 * h.arcs) arcs))
+    held_servable : {ss : List ℕ} → ss ≡ P.services → All (Servable ss) (take h.arcs arcs)
     held_servable e =
         rw (e, arcs_held) (all_servable P.says.graph.nodes P.services good.count good.service P.says.graph.arcs good.says.arc)
 
     -- and behind that
-    held_served : {ss out : List ℕ} → ss ≡ P.services → out ≡ front (flat (served ss (arcs_of (take (3 * h.arcs) arcs)))) arcs
-        → out ≡ front (flat (sheet_on P).graph.arcs) old
+    held_served : {ss : List ℕ} {ys out : List Arc} → ss ≡ P.services → ys ≡ served ss (take h.arcs arcs) → out ≡ ys ++ drop h.arcs arcs
+        → out ≡ front (sheet_on P).graph.arcs old
     unfolding sheet_on
-    held_served {ss} {out} e w =
+    held_served {ss} {ys} {out} e y w =
         let xs = P.says.graph.arcs in
-        let ys = served P.services xs in
-        let n : length (flat xs) ≤ length (flat ys) = omega (arith, length_flat xs, length_flat ys, served_count P.services xs) in
-        let u : out ≡ front (flat ys) arcs = rw (e, arcs_held) at w in
-        u ∙ ap (flat ys ++◌) (ap (drop (length (flat ys))) arcs_stand ∙ front_rest (flat xs) old (length (flat ys)) n)
+        let zs = served P.services xs in
+        let u : ys ≡ zs = rw (e, arcs_held) at y in
+        let n : h.arcs ≡ length zs = omega (arith, served_count P.services xs, arcs_are) in
+        let d : drop h.arcs arcs ≡ drop (length zs) old =
+        ap (drop h.arcs) arcs_stand ∙ front_rest xs old h.arcs (omega (arith, arcs_are)) ∙ ap (λ (i : ℕ). drop i old) n in
+        w ∙ ap (◌++ drop h.arcs arcs) u ∙ ap (zs ++◌) d
 
-  arcs_size : length (flat (sheet_on P).graph.arcs) ≡ 3 * h.arcs
+  arcs_size : length (sheet_on P).graph.arcs ≡ h.arcs
   unfolding header_of
-  arcs_size = length_flat (sheet_on P).graph.arcs ∙ ap (λ (k : Header). 3 * k.arcs) (sym hs)
+  arcs_size = ap (λ (k : Header). k.arcs) (sym hs)
 
   marks_size : length (sheet_on P).marks ≡ h.nodes + h.arcs
   unfolding header_of
@@ -162,12 +145,13 @@ module _ (s : List ℕ) (P : Page) (t : page s ≡ got P []) (h : Header) (hs : 
   marks_left = left.marks
 
   -- what a read leaves in front of the arrays
-  stands : (c d e arcs marks services : List ℕ) → arcs ≡ front (flat (sheet_on P).graph.arcs) c → marks ≡ front (marks_begun (content s)) d
+  stands : (c arcs : List Arc) (d e marks services : List ℕ) → arcs ≡ front (sheet_on P).graph.arcs c → marks ≡ front (marks_begun (content s)) d
       → services ≡ front (services_begun (lead s) (content s)) e
-      → LoadedPage s h (take (3 * h.arcs) arcs) (take (h.nodes + h.arcs) marks) (take h.nodes services)
-  stands c d e arcs marks services a m v =
+      → LoadedPage s h (take h.arcs arcs) (take (h.nodes + h.arcs) marks) (take h.nodes services)
+  unfolding header_of
+  stands c arcs d e marks services a m v =
       let S = sheet_on P in
-      let x : take (3 * h.arcs) arcs ≡ flat S.graph.arcs = ap (take (3 * h.arcs)) a ∙ front_taken (flat S.graph.arcs) c (3 * h.arcs) arcs_size in
+      let x : take h.arcs arcs ≡ S.graph.arcs = ap (take h.arcs) a ∙ front_taken S.graph.arcs c h.arcs arcs_size in
       let y : take (h.nodes + h.arcs) marks ≡ S.marks =
       ap (take (h.nodes + h.arcs)) (m ∙ ap (λ (ms : List ℕ). front ms d) marks_left) ∙ front_taken S.marks d (h.nodes + h.arcs) marks_size in
       let z = services_stand e services v in
@@ -175,55 +159,55 @@ module _ (s : List ℕ) (P : Page) (t : page s ≡ got P []) (h : Header) (hs : 
       record {
         on = P;
         took = t;
-        means = sym (rw (x, y) (ap (λ (k : Header). sheet_of k (flat S.graph.arcs) S.marks) hs ∙ same_sheet S));
+        means = sym (rw (x, y) (ap (λ (k : Header). sheet_of k S.graph.arcs S.marks) hs));
         served = sym z;
-        whole = rw (x, y) (subst (λ (k : Header). Whole k (flat S.graph.arcs) S.marks) (sym hs) w);
+        whole = rw (x, y) (subst (λ (k : Header). Whole k S.graph.arcs S.marks) (sym hs) w);
         count = rw z service_count;
       }
 
 -- where the sheet was taken: what is asked for before the service minutes are added, and what the arcs are then
 module _ (s : List ℕ) (h : Header) (q : answered (taken s) ≡ Ok h) where
-  pub sizes_held : (h.nodes ≤ 64) × (3 * h.arcs ≤ 1536)
+  pub sizes_held : (h.nodes ≤ 64) × (h.arcs ≤ 512)
   sizes_held =
       let o = said s h q in
       let g = (page_good s o.on [] o.took).says in
       (omega (arith, nodes_are s o.on o.took h o.header, g.nodes), omega (arith, arcs_are s o.on o.took h o.header, g.arcs))
 
-  module _ (old₁ arcs old₃ services : List ℕ) (a : arcs ≡ front (flat (arcs_begun (content s))) old₁) (v : services ≡ front (services_begun (lead s) (content s)) old₃) where
-    pub can_serve : All (Servable (take h.nodes services)) (arcs_of (take (3 * h.arcs) arcs))
+  module _ (old₁ arcs : List Arc) (old₃ services : List ℕ) (a : arcs ≡ front (arcs_begun (content s)) old₁) (v : services ≡ front (services_begun (lead s) (content s)) old₃) where
+    pub can_serve : All (Servable (take h.nodes services)) (take h.arcs arcs)
     can_serve =
         let o = said s h q in
         held_servable s o.on o.took h o.header old₁ arcs a (services_stand s o.on o.took h o.header old₃ services v)
 
-    pub is_served : {out : List ℕ} → out ≡ front (flat (served (take h.nodes services) (arcs_of (take (3 * h.arcs) arcs)))) arcs
-        → out ≡ front (flat (arcs_left (taken s) (arcs_begun (content s)))) old₁
+    pub is_served : {ys out : List Arc} → ys ≡ served (take h.nodes services) (take h.arcs arcs) → out ≡ ys ++ drop h.arcs arcs
+        → out ≡ front (arcs_left (taken s) (arcs_begun (content s))) old₁
     unfolding arcs_left
-    is_served w =
+    is_served y w =
         let o = said s h q in
-        held_served s o.on o.took h o.header old₁ arcs a (services_stand s o.on o.took h o.header old₃ services v) w
-        ∙ ap (λ (r : Read Sheet). front (flat (arcs_left r (arcs_begun (content s)))) old₁) (sym (page_taken s o.on o.took))
+        held_served s o.on o.took h o.header old₁ arcs a (services_stand s o.on o.took h o.header old₃ services v) y w
+        ∙ ap (λ (r : Read Sheet). front (arcs_left r (arcs_begun (content s))) old₁) (sym (page_taken s o.on o.took))
 
 -- a refused sheet leaves the arcs as they were read
-pub none_served : (s : List ℕ) (w : ℕ) (old arcs : List ℕ) → taken s ≡ refuse w → arcs ≡ front (flat (arcs_begun (content s))) old
-    → arcs ≡ front (flat (arcs_left (taken s) (arcs_begun (content s)))) old
+pub none_served : (s : List ℕ) (w : ℕ) (old arcs : List Arc) → taken s ≡ refuse w → arcs ≡ front (arcs_begun (content s)) old
+    → arcs ≡ front (arcs_left (taken s) (arcs_begun (content s))) old
 unfolding arcs_left
-none_served s w old arcs q a = a ∙ ap (λ (r : Read Sheet). front (flat (arcs_left r (arcs_begun (content s)))) old) (sym q)
+none_served s w old arcs q a = a ∙ ap (λ (r : Read Sheet). front (arcs_left r (arcs_begun (content s))) old) (sym q)
 
 -- what a read leaves, as its callers meet it
-pub page_loaded : (s c d e arcs marks services : List ℕ) (h : Header) → answered (taken s) ≡ Ok h → arcs ≡ front (flat (arcs_left (taken s) (arcs_begun (content s)))) c
+pub page_loaded : (s : List ℕ) (c arcs : List Arc) (d e marks services : List ℕ) (h : Header) → answered (taken s) ≡ Ok h → arcs ≡ front (arcs_left (taken s) (arcs_begun (content s))) c
     → marks ≡ front (marks_begun (content s)) d → services ≡ front (services_begun (lead s) (content s)) e
-    → LoadedPage s h (take (3 * h.arcs) arcs) (take (h.nodes + h.arcs) marks) (take h.nodes services)
+    → LoadedPage s h (take h.arcs arcs) (take (h.nodes + h.arcs) marks) (take h.nodes services)
 unfolding arcs_left
-page_loaded s c d e arcs marks services h q a m v =
+page_loaded s c arcs d e marks services h q a m v =
     let o = said s h q in
-    stands s o.on o.took h o.header c d e arcs marks services
-    (a ∙ ap (λ (r : Read Sheet). front (flat (arcs_left r (arcs_begun (content s)))) c) (page_taken s o.on o.took)) m v
+    stands s o.on o.took h o.header c arcs d e marks services
+    (a ∙ ap (λ (r : Read Sheet). front (arcs_left r (arcs_begun (content s))) c) (page_taken s o.on o.took)) m v
 
-pub loaded : {s arcs marks services : List ℕ} {h : Header} → LoadedPage s h arcs marks services → Loaded s h arcs marks
+pub loaded : {s : List ℕ} {arcs : List Arc} {marks services : List ℕ} {h : Header} → LoadedPage s h arcs marks services → Loaded s h arcs marks
 loaded {s} l = record { makes = page_taken s l.on l.took ∙ ap (λ (S : Sheet). got S []) l.means; whole = l.whole }
 
-pub all_loaded : (s arcs marks services : List ℕ) (r : Result Header Refusal)
-    → IfOk r (λ h. LoadedPage s h (take (3 * h.arcs) arcs) (take (h.nodes + h.arcs) marks) (take h.nodes services))
-    → IfOk r (λ h. Loaded s h (take (3 * h.arcs) arcs) (take (h.nodes + h.arcs) marks))
+pub all_loaded : (s : List ℕ) (arcs : List Arc) (marks services : List ℕ) (r : Result Header Refusal)
+    → IfOk r (λ h. LoadedPage s h (take h.arcs arcs) (take (h.nodes + h.arcs) marks) (take h.nodes services))
+    → IfOk r (λ h. Loaded s h (take h.arcs arcs) (take (h.nodes + h.arcs) marks))
 all_loaded s arcs marks services (Ok h) p = loaded p
 all_loaded s arcs marks services (Err why) p = p

@@ -1,5 +1,5 @@
 -- Laws of the whole sheet: what its parts say of it, and what a read leaves where it was taken. Assumes nothing.
-use Prim.Native.Nat.{ℕ, zero, suc, ◌+◌, ◌*◌}
+use Prim.Native.Nat.{ℕ, zero, suc, ◌+◌}
 use mathlib.Core.Path.{◌≡◌, refl, ap, sym, ◌∙◌, subst}
 use mathlib.Core.List.{List, [], ◌∷◌}
 use native.Mathlib.Omega.{arith}
@@ -11,9 +11,7 @@ use Rattle.std.specs.Prelude.{Ok}
 use Rattle.lists.specs.Lists.{front, pick}
 use Rattle.varint.proofs.VarintLaws.{after_got, got_both}
 use Rattle.varint.specs.Varint.{Read, got, refuse, after, several}
-use Rattle.walks.specs.Graph.{Arc}
-use Rattle.walks.specs.Flat.{flat}
-use Rattle.walks.proofs.FlatLaws.{arcs_flat, length_flat}
+use Rattle.walks.specs.declared.arc.Arc.{Arc}
 use Rattle.sheet.proofs.PageLaws.{served_count, required_served}
 use Rattle.sheet.proofs.SheetLaws.{some_got, content_says, page_got}
 use Rattle.sheet.specs.declared.Header.{Header}
@@ -84,15 +82,15 @@ module _ (k : ℕ) (h : Header) (bs : List ℕ) where
 
     -- the required items of the sheet that stands in the arrays
     pub count_held :
-        (old₁ old₂ : List ℕ) {a b : List ℕ} {r : Bool} → a ≡ front (flat (arcs_behind h bs)) old₁ → b ≡ front (marks_behind h bs) old₂
-        → r ≡ leb (length (required (sheet_of h (take (3 * h.arcs) a) (take (h.nodes + h.arcs) b)))) 8
+        (old₁ : List Arc) (old₂ : List ℕ) {a : List Arc} {b : List ℕ} {r : Bool} → a ≡ front (arcs_behind h bs) old₁ → b ≡ front (marks_behind h bs) old₂
+        → r ≡ leb (length (required (sheet_of h (take h.arcs a) (take (h.nodes + h.arcs) b)))) 8
         → r ≡ leb (length (required (sheet_behind h bs))) 8
     count_held old₁ old₂ {a} {b} p m e =
         let c = lists_count h bs q in
         let xs = arcs_behind h bs in
-        let x : take (3 * h.arcs) a ≡ flat xs = rw p (take_at (flat xs) (drop (length (flat xs)) old₁) (3 * h.arcs) (length_flat xs ∙ ap (λ (i : ℕ). 3 * i) c.0)) in
+        let x : take h.arcs a ≡ xs = rw p (take_at xs (drop (length xs) old₁) h.arcs c.0) in
         let y : take (h.nodes + h.arcs) b ≡ marks_behind h bs = rw m (take_at (marks_behind h bs) (drop (length (marks_behind h bs)) old₂) (h.nodes + h.arcs) c.1) in
-        let w : sheet_of h (take (3 * h.arcs) a) (take (h.nodes + h.arcs) b) ≡ sheet_behind h bs = rw (x, y, arcs_flat xs) in
+        let w : sheet_of h (take h.arcs a) (take (h.nodes + h.arcs) b) ≡ sheet_behind h bs = rw (x, y) in
         e ∙ ap (λ (S : Sheet). leb (length (required S)) 8) w
 
     module _ {ss left : List ℕ} (qs : read_services k (sheet_behind h bs) end ≡ got (record { says = sheet_behind h bs; services = ss }) left) where

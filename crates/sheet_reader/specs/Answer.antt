@@ -1,7 +1,7 @@
 -- What the reader's answer stands for, and what a read leaves in the arrays that it is lent.
 use Rattle.std.specs.Prelude.{ℕ, ◌+◌, List, Result, Ok, Err}
 use Rattle.varint.specs.Varint.{Read, got, refuse, after, several}
-use Rattle.walks.specs.Graph.{Arc}
+use Rattle.walks.specs.declared.arc.Arc.{Arc}
 use Rattle.sheet.specs.Sheet.{Sheet, header_of}
 use Rattle.sheet.specs.Reader.{read_arc, read_mark, read_header, read_arcs, read_services, complete, meant}
 use Rattle.sheet.specs.declared.Header.{Header}

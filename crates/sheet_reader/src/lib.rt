@@ -2,45 +2,36 @@
 
 #![tactic(auto)]
 
-ghost use Rattle.std.specs.Prelude.{◌≡◌, ◌+◌, ◌*◌, ◌≤◌, length, take, leb, Ok, IfOk, IfErr, OnOk};
+ghost use Rattle.std.specs.Prelude.{◌≡◌, ◌+◌, ◌≤◌, length, take, Ok, IfOk, IfErr, OnOk};
 ghost use Rattle.lists.specs.Lists.{front};
 ghost use Rattle.varint.specs.Varint.{got, refuse};
 ghost use Rattle.varint.specs.Refusal.{number_of};
-ghost use Rattle.walks.specs.Flat.{flat};
-ghost use Rattle.sheet.specs.Sheet.{required, sheet_of};
 ghost use Rattle.sheet.specs.Reader.{read_arcs, lead, content, page, taken};
 ghost use Rattle.sheet_services.specs.Services.{leading};
 ghost use Rattle.sheet_reader.specs.Loaded.{Loaded, LoadedPage};
 ghost use Rattle.sheet_reader.specs.Answer.{answered, read_behind, read_content, arcs_behind, marks_behind, sheet_behind, services_behind, arcs_begun, marks_begun, services_begun, arcs_left};
+
+pub mod page;
 
 use numbers::section;
 use sheet::Header;
 use sheet_values::Marks;
 use varint::{Bytes, Refusal};
 use walks::NODES;
+use walks::arc::Arc;
+use walks::mark::Mark;
 
-// Whether at most eight items are required; the arcs' numbers and the marks stand in front.
-fn few_required(header: Header, arcs: &[u32], marks: &[u8]) -> bool
-    requires { (header.nodes ≤ 64) × (header.arcs ≤ 512) × (1536 ≤ length arcs.now) × (576 ≤ length marks.now) }
-    ensures { let xs = take (3 * header.arcs) arcs.now in
-        let ms = take (header.nodes + header.arcs) marks.now in result ≡ leb (length (required (sheet_of header xs ms))) 8 }
-{
-    let numbers = 3 * header.arcs;
-    let items = header.nodes + header.arcs;
-    sheet_required::few(header, &arcs[..numbers], &marks[..items])
-}
-
-// Takes the arcs and the marks of a sheet whose header was read.
+// Takes the arcs and the marks of a sheet whose header was read. They are written here and in `read_behind`, so there is no `Sheet` yet.
 fn take_lists(
     bytes: &mut Bytes,
     header: Header,
-    arcs: &mut [u32],
-    marks: &mut [u8],
+    arcs: &mut [Arc],
+    marks: &mut [Mark],
 ) -> Result<(), Refusal>
-    requires { (header.nodes ≤ 64) × (header.arcs ≤ 512) × (1536 ≤ length arcs.old) × (576 ≤ length marks.old) }
+    requires { (header.nodes ≤ 64) × (header.arcs ≤ 512) × (512 ≤ length arcs.old) × (576 ≤ length marks.old) }
     ensures got { let bs = bytes.old.rest.now in OnOk result (read_arcs header bs ≡ got (sheet_behind header bs) bytes.new.rest.now) }
     ensures refused { IfErr result (λ why. read_arcs header bytes.old.rest.now ≡ refuse (number_of why)) }
-    ensures arcs_in_front { arcs.new ≡ front (flat (arcs_behind header bytes.old.rest.now)) arcs.old }
+    ensures arcs_in_front { arcs.new ≡ front (arcs_behind header bytes.old.rest.now) arcs.old }
     ensures marks_in_front { marks.new ≡ front (marks_behind header bytes.old.rest.now) marks.old }
 {
     sheet_parts::take_arcs(bytes, header.nodes as u32, header.arcs, arcs)?;
@@ -54,14 +45,14 @@ fn read_behind(
     leads: bool,
     header: Header,
     section: &[u8],
-    arcs: &mut [u32],
-    marks: &mut [u8],
+    arcs: &mut [Arc],
+    marks: &mut [Mark],
     services: &mut [u32],
 ) -> Result<(), Refusal>
-    requires { (header.nodes ≤ 64) × (header.arcs ≤ 512) × (1536 ≤ length arcs.old) × (576 ≤ length marks.old) × (64 ≤ length services.old) }
+    requires { (header.nodes ≤ 64) × (header.arcs ≤ 512) × (512 ≤ length arcs.old) × (576 ≤ length marks.old) × (64 ≤ length services.old) }
     ensures got { OnOk result (answered (read_behind (leading leads) header section.now) ≡ Ok header) }
     ensures refused { IfErr result (λ why. read_behind (leading leads) header section.now ≡ refuse (number_of why)) }
-    ensures arcs_in_front { arcs.new ≡ front (flat (arcs_behind header section.now)) arcs.old }
+    ensures arcs_in_front { arcs.new ≡ front (arcs_behind header section.now) arcs.old }
     ensures marks_in_front { marks.new ≡ front (marks_behind header section.now) marks.old }
     ensures services_in_front { services.new ≡ front (services_behind (leading leads) header section.now) services.old }
 {
@@ -71,7 +62,9 @@ fn read_behind(
     if !bytes.rest.is_empty() {
         return Err(Refusal::Rest);
     }
-    if few_required(header, arcs, marks) {
+    let arcs = &arcs[..header.arcs];
+    let marks = &marks[..header.nodes + header.arcs];
+    if sheet_required::few(header, &arcs, marks) {
         Ok(())
     } else {
         Err(Refusal::Required)
@@ -82,14 +75,14 @@ fn read_behind(
 fn read_content(
     leads: bool,
     content: &[u8],
-    arcs: &mut [u32],
-    marks: &mut [u8],
+    arcs: &mut [Arc],
+    marks: &mut [Mark],
     services: &mut [u32],
 ) -> Result<Header, Refusal>
-    requires { (1536 ≤ length arcs.old) × (576 ≤ length marks.old) × (64 ≤ length services.old) }
+    requires { (512 ≤ length arcs.old) × (576 ≤ length marks.old) × (64 ≤ length services.old) }
     ensures got { IfOk result (λ header. answered (read_content (leading leads) content.now) ≡ Ok header) }
     ensures refused { IfErr result (λ why. read_content (leading leads) content.now ≡ refuse (number_of why)) }
-    ensures arcs_in_front { arcs.new ≡ front (flat (arcs_begun content.now)) arcs.old }
+    ensures arcs_in_front { arcs.new ≡ front (arcs_begun content.now) arcs.old }
     ensures marks_in_front { marks.new ≡ front (marks_begun content.now) marks.old }
     ensures services_in_front { services.new ≡ front (services_begun (leading leads) content.now) services.old }
 {
@@ -99,38 +92,38 @@ fn read_content(
     Ok(header)
 }
 
-// Reads a sheet. The numbers of its arcs, three each, are stored over the front of `arcs`, its marks over the front of `marks`, its service minutes over the
+// Reads a sheet. Its arcs are stored over the front of `arcs`, its marks over the front of `marks`, its service minutes over the
 // front of `services`; where the sheet is taken, the arcs' weights are what it means, minutes and service minutes together. A refused sheet leaves there what
 // was read before the fault. The clauses `taken_refused` and `loaded` follow from the others; they are what callers use.
 pub fn read_page(
     sheet: &[u8],
-    arcs: &mut [u32],
-    marks: &mut [u8],
+    arcs: &mut [Arc],
+    marks: &mut [Mark],
     services: &mut [u32],
 ) -> Result<Header, Refusal>
-    requires { (1536 ≤ length arcs.old) × (576 ≤ length marks.old) × (64 ≤ length services.old) }
+    requires { (512 ≤ length arcs.old) × (576 ≤ length marks.old) × (64 ≤ length services.old) }
     ensures header_told { IfOk result (λ header. answered (taken sheet.now) ≡ Ok header) }
     ensures refused { IfErr result (λ why. page sheet.now ≡ refuse (number_of why)) }
     ensures taken_refused { IfErr result (λ why. taken sheet.now ≡ refuse (number_of why)) }
-    ensures arcs_in_front { let s = sheet.now in arcs.new ≡ front (flat (arcs_left (taken s) (arcs_begun (content s)))) arcs.old }
+    ensures arcs_in_front { let s = sheet.now in arcs.new ≡ front (arcs_left (taken s) (arcs_begun (content s))) arcs.old }
     ensures marks_in_front { marks.new ≡ front (marks_begun (content sheet.now)) marks.old }
     ensures services_in_front { let s = sheet.now in services.new ≡ front (services_begun (lead s) (content s)) services.old }
-    ensures loaded { IfOk result (λ h. LoadedPage sheet.now h (take (3 * h.arcs) arcs.new) (take (h.nodes + h.arcs) marks.new) (take h.nodes services.new)) }
+    ensures loaded { IfOk result (λ h. LoadedPage sheet.now h (take h.arcs arcs.new) (take (h.nodes + h.arcs) marks.new) (take h.nodes services.new)) }
 {
     let (leads, content) = sheet_services::lead_and_content(sheet);
     let header = read_content(leads, content, arcs, marks, services)?;
-    sheet_services::serve(arcs, header.arcs, &services[..header.nodes]);
+    sheet_services::serve(&mut arcs[..header.arcs], &services[..header.nodes]);
     Ok(header)
 }
 
 // The same for a caller that looks at no service minutes by themselves.
-pub fn read(sheet: &[u8], arcs: &mut [u32], marks: &mut [u8]) -> Result<Header, Refusal>
-    requires { (1536 ≤ length arcs.old) × (576 ≤ length marks.old) }
+pub fn read(sheet: &[u8], arcs: &mut [Arc], marks: &mut [Mark]) -> Result<Header, Refusal>
+    requires { (512 ≤ length arcs.old) × (576 ≤ length marks.old) }
     ensures header_told { IfOk result (λ header. answered (taken sheet.now) ≡ Ok header) }
     ensures refused { IfErr result (λ why. taken sheet.now ≡ refuse (number_of why)) }
-    ensures arcs_in_front { let s = sheet.now in arcs.new ≡ front (flat (arcs_left (taken s) (arcs_begun (content s)))) arcs.old }
+    ensures arcs_in_front { let s = sheet.now in arcs.new ≡ front (arcs_left (taken s) (arcs_begun (content s))) arcs.old }
     ensures marks_in_front { marks.new ≡ front (marks_begun (content sheet.now)) marks.old }
-    ensures loaded { IfOk result (λ h. Loaded sheet.now h (take (3 * h.arcs) arcs.new) (take (h.nodes + h.arcs) marks.new)) }
+    ensures loaded { IfOk result (λ h. Loaded sheet.now h (take h.arcs arcs.new) (take (h.nodes + h.arcs) marks.new)) }
 {
     let mut services = [0u32; NODES];
     read_page(sheet, arcs, marks, &mut services)

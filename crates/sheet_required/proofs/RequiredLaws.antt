@@ -1,23 +1,23 @@
 -- Laws of the forced nodes and the required items: the ends of mandatory arcs, marked from the last arc to the first, and the list of the items that
 -- pass the test.
 -- Assumes nothing.
-use Prim.Native.Nat.{ℕ, suc, ◌+◌, ◌-◌, ◌*◌, ◌≤◌, ◌<◌}
+use Prim.Native.Nat.{ℕ, suc, ◌+◌, ◌-◌, ◌≤◌, ◌<◌}
 use mathlib.Core.Path.{◌≡◌, refl, ap, sym, ◌∙◌}
 use mathlib.Core.List.{List, [], ◌∷◌, ◌++◌, append_assoc, append-nil}
 use mathlib.Core.Bool.{Bool, true, false, not, ◌&&◌, ◌||◌}
 use native.Mathlib.Omega.{arith}
 use native.Mathlib.Numerals.{add-one}
 use lib.Dec.{eqb, ltb}
-use Rattle.std.specs.List.{list_any}
+use Rattle.std.specs.List.{fold}
 use lib.ListN.{length, get_or, set, take, replicate, get_or-eq_default, get_or-replicate, length-append, length-set, length-take}
+use Rattle.std.proofs.lemmas.Grind.{get_or_default_zero}
 use lib.Seq.{get_or-set_same, get_or-set_other, set_out, take_all, take-nil, take-append-le}
 use borrow.Author.Tests.{eqb-true, eqb-false, eq-eqb, ne_eqb, ltb-true, ltb-false, lt-ltb}
 use Rattle.lists.specs.Lists.{front, member, add, keep, span}
 use Rattle.lists.proofs.MemberLaws.{member_away}
 use Rattle.lists.proofs.FrontLaws.{length_front, push}
-use Rattle.walks.specs.Graph.{Arc, no_arc, tail_of, head_of, arc_item}
-use Rattle.walks.specs.Flat.{arcs_of}
-use Rattle.walks.proofs.FlatLaws.{arc_at, arcs_many}
+use Rattle.walks.specs.declared.arc.Arc.{Arc}
+use Rattle.walks.specs.Graph.{no_arc, tail_of, head_of, arc_item}
 use Rattle.sheet.specs.declared.Header.{Header}
 use Rattle.sheet.proofs.MarkLaws.{arc_free, unmarked}
 use Rattle.sheet.specs.Sheet.{Sheet, mark_of, is_mandatory, is_forced, ends_mandatory, all_arcs, is_required, required, sheet_of, Sized}
@@ -46,7 +46,7 @@ none_or : (a : Bool) → (a || false) ≡ a
 none_or true = refl
 none_or false = refl
 
-module _ (h : Header) (xs ms : List ℕ) where
+module _ (h : Header) (xs : List Arc) (ms : List ℕ) where
   abbrev S : Sheet
   S = sheet_of h xs ms
 
@@ -68,23 +68,17 @@ module _ (h : Header) (xs ms : List ℕ) where
     unfolding span
     spanned = let e : h.arcs - j ≡ suc (h.arcs - (j + 1)) = omega arith in rw (e, span, add-one j)
 
-    pub end_more : is_mandatory S (arc_item S.graph j) ≡ true → Ending (j + 1) (set (set forced (get_or xs (j * 3) 0) true) (get_or xs (j * 3 + 1) 0) true)
+    pub end_more : is_mandatory S (arc_item S.graph j) ≡ true → Ending (j + 1) (set (set forced (get_or xs j no_arc).tail true) (get_or xs j no_arc).head true)
     unfolding ends_mandatory tail_of head_of
     end_more m =
         record {
           few = omega arith;
           size = simp length-set w.size;
           each = λ p b. w.each p b
-              ∙ rw (spanned, m, tail, head, two_set forced (get_or xs (j * 3) 0) (get_or xs (j * 3 + 1) 0) p (omega (arith, w.size)))
-              (either (get_or forced p false) (eqb (get_or xs (j * 3) 0) p) (eqb (get_or xs (j * 3 + 1) 0) p) _);
+              ∙ rw (spanned, m, two_set forced (get_or xs j no_arc).tail (get_or xs j no_arc).head p (omega (arith, w.size)))
+              (either (get_or forced p false) (eqb (get_or xs j no_arc).tail p) (eqb (get_or xs j no_arc).head p) _);
         }
       where
-        tail : (get_or (arcs_of xs) j no_arc).tail ≡ get_or xs (j * 3) 0
-        tail = ap (λ (x : Arc). x.tail) (arc_at xs j (omega (arith, sized.0)))
-
-        head : (get_or (arcs_of xs) j no_arc).head ≡ get_or xs (j * 3 + 1) 0
-        head = ap (λ (x : Arc). x.head) (arc_at xs j (omega (arith, sized.0)))
-
         either : (d a b r : Bool) → (d || ((a || b) || r)) ≡ ((b || (a || d)) || r)
         either true true true r = refl
         either true true false r = refl
@@ -112,7 +106,7 @@ module _ (h : Header) (xs ms : List ℕ) where
       found : (p : ℕ) → p < 64 → get_or ends p false ≡ ends_mandatory S p (all_arcs S.graph)
       found p q =
           let z : h.arcs - j ≡ 0 = omega arith in
-          sym (rw (arcs_many xs h.arcs sized.0) (w.each p q ∙ rw z (none_or (get_or ends p false))))
+          sym (rw sized.0 (w.each p q ∙ rw z (none_or (get_or ends p false))))
 
       turned : (a b c : Bool) → (b || (a || c)) ≡ (a || (b || c))
       turned true true c = refl
@@ -125,11 +119,16 @@ pub forced_one : (S : Sheet) {forced : List Bool} → ForcedNodes S forced → S
 unfolding is_forced
 forced_one S w few p h = rw (lt-ltb p S.graph.nodes h) (w.each p (omega arith))
 
+-- a mark that was read says whether the item is mandatory
+pub mark_told : (S : Sheet) (i : ℕ) {m : ℕ} → m ≡ get_or S.marks i m → i < length S.marks → is_mandatory S i ≡ eqb m 1
+unfolding is_mandatory mark_of
+mark_told S i {m} e l = ap (λ (x : ℕ). eqb x 1) (sym (get_or_default_zero S.marks i m l) ∙ sym e)
+
 -- the test of an item, by its mark and the forced nodes
-pub required_by : (S : Sheet) {forced : List Bool} → ForcedNodes S forced → S.graph.nodes ≤ 64 → (i : ℕ)
-    → (eqb (get_or S.marks i 0) 1 && not (ltb i S.graph.nodes && get_or forced i false)) ≡ is_required S i
-unfolding is_required is_mandatory mark_of
-required_by S {forced} w few i = ap (λ (b : Bool). eqb (get_or S.marks i 0) 1 && not b) (go (ltb i S.graph.nodes) refl)
+pub required_by : (S : Sheet) {forced : List Bool} → ForcedNodes S forced → S.graph.nodes ≤ 64 → (i : ℕ) {b : Bool} → b ≡ is_mandatory S i
+    → (b && not (ltb i S.graph.nodes && get_or forced i false)) ≡ is_required S i
+unfolding is_required
+required_by S {forced} w few i e = rw e (ap (λ (b : Bool). is_mandatory S i && not b) (go (ltb i S.graph.nodes) refl))
   where
     go : (t : Bool) → ltb i S.graph.nodes ≡ t → (t && get_or forced i false) ≡ is_forced S i
     go true e = forced_one S w few i (ltb-true i S.graph.nodes e)
@@ -205,14 +204,18 @@ module _ {f : ℕ → Bool} {n : ℕ} {old out : List ℕ} {count p : ℕ} (w : 
       let e : keep f (span n 0) ≡ w.xs = w.same ∙ rw k (append-nil w.xs) in
       rw e (record { counted = sym w.size; written = w.holds })
 
--- what `contains` finds
-pub contained : (mark : ℕ) (xs : List ℕ) → list_any (λ y. eqb y mark) xs ≡ member mark xs
+-- a fold over the marks finds a mandatory one
+folded : (some : Bool) (xs : List ℕ) → fold (λ some m. some || eqb m 1) some xs ≡ (some || member 1 xs)
 unfolding member
-contained mark [] = refl
-contained mark (x ∷ xs) = rw (contained mark xs, eqb_sym x mark)
+folded some [] = sym (none_or some)
+folded some (x ∷ xs) = folded (some || eqb x 1) xs ∙ rw (eqb_sym x 1) (or_assoc some (eqb 1 x) (member 1 xs))
+  where
+    or_assoc : (a b c : Bool) → ((a || b) || c) ≡ (a || (b || c))
+    or_assoc true b c = refl
+    or_assoc false b c = refl
 
 -- with no mark of 1 nothing is required
-pub none_required : (S : Sheet) (list : List ℕ) → member 1 S.marks ≡ false → RoomListed (required S) list list 0
+pub none_required : (S : Sheet) (list : List ℕ) → fold (λ some m. some || eqb m 1) false S.marks ≡ false → RoomListed (required S) list list 0
 unfolding is_mandatory mark_of
 none_required S list e =
     let z : required S ≡ [] = unmarked S (λ i. ne_eqb (get_or S.marks i 0) 1 (λ q. never i q)) in
@@ -222,5 +225,5 @@ none_required S list e =
     never i q = go (ltb i (length S.marks)) refl
       where
         go : (t : Bool) → ltb i (length S.marks) ≡ t → ⊥
-        go true l = member_away 1 S.marks e i (ltb-true i (length S.marks) l) q
+        go true l = member_away 1 S.marks (sym (folded false S.marks) ∙ e) i (ltb-true i (length S.marks) l) q
         go false l = omega (arith, q, get_or-eq_default S.marks 0 (ltb-false i (length S.marks) l))

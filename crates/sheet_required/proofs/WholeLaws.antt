@@ -7,15 +7,15 @@ use lib.ListN.{length, get_or, take, drop}
 use lib.Seq.{take_at, take_all}
 use Rattle.lists.proofs.Pigeonhole.{Below}
 use Rattle.lists.specs.Lists.{front, Put}
+use Rattle.walks.specs.declared.arc.Arc.{Arc}
 use Rattle.walks.specs.Flat.{graph_of}
 use Rattle.walks.specs.Graph.{item_count}
-use Rattle.walks.proofs.FlatLaws.{arcs_count}
 use Rattle.sheet.specs.declared.Header.{Header}
 use Rattle.sheet_required.specs.Whole.{Whole, RoomListed}
 
 -- the items that the header counts
-pub items_are : {h : Header} {arcs marks : List ℕ} → Whole h arcs marks → item_count (graph_of h.nodes arcs) ≡ h.nodes + h.arcs
-items_are {h} {arcs} W = let e = arcs_count arcs in omega (arith, e, W.sized.0)
+pub items_are : {h : Header} {arcs : List Arc} {marks : List ℕ} → Whole h arcs marks → item_count (graph_of h.nodes arcs) ≡ h.nodes + h.arcs
+items_are W = omega (arith, W.sized.0)
 
 -- an entry of a list of small numbers
 pub goals_at : (n i : ℕ) (xs : List ℕ) → Below n xs → i < length xs → get_or xs i 0 < n

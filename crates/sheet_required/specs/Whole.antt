@@ -1,13 +1,14 @@
 -- A sheet as the code has it.
 use Rattle.std.specs.Prelude.{ℕ, ◌≤◌, ◌<◌, ◌≡◌, Bool, false, ◌||◌, List, length, get_or, take, eqb}
 use Rattle.lists.specs.Lists.{front}
+use Rattle.walks.specs.declared.arc.Arc.{Arc}
 use Rattle.sheet.specs.Sheet.{Sheet, sheet_of, Sized, all_arcs, ends_mandatory, required}
 use Rattle.sheet.specs.Good.{Good}
 use Rattle.rows.specs.Net.{net_of, Proper}
 use Rattle.sheet.specs.declared.Header.{Header}
 
 -- the numbers of a taken sheet
-pub record Whole (h : Header) (arcs marks : List ℕ) : Type 0 where
+pub record Whole (h : Header) (arcs : List Arc) (marks : List ℕ) : Type 0 where
   pub proper : Proper (net_of h.nodes arcs marks)
   pub sized : Sized h arcs marks
   pub few : h.arcs ≤ 512

@@ -2,13 +2,19 @@
 
 #![tactic(auto)]
 
-ghost use Rattle.std.specs.Prelude.{◌≡◌, true, false, not, ◌&&◌, ◌+◌, ◌*◌, ◌≤◌, ◌<◌, length, get_or, set, eqb, ltb, leb};
-ghost use Rattle.lists.specs.Lists.{member};
+ghost use Rattle.std.specs.Prelude.{◌≡◌, true, false, not, ◌&&◌, ◌||◌, ◌+◌, ◌≤◌, ◌<◌, length, get_or, set, eqb, ltb, leb};
+ghost use Rattle.std.specs.List.{fold};
 ghost use Rattle.sheet.specs.Sheet.{required, sheet_of, Sized};
 ghost use Rattle.sheet_required.specs.Whole.{ForcedNodes, RoomListed};
 
+pub mod arcs;
+pub mod whole;
+
+use arcs::ArcList;
 use sheet::Header;
-use walks::{GOALS, MANDATORY, NODES};
+use walks::arc::Arc;
+use walks::mark::Mark;
+use walks::{GOALS, NODES};
 
 // The node is marked, where it is one of those that `nodes` has a place for.
 fn mark_node(nodes: &mut [bool], node: usize)
@@ -20,22 +26,22 @@ fn mark_node(nodes: &mut [bool], node: usize)
 }
 
 // Both ends of an arc are marked.
-fn mark_ends(nodes: &mut [bool], tail: u32, head: u32)
-    ensures { nodes.new ≡ set (set nodes.old tail true) head true }
+fn mark_ends(nodes: &mut [bool], arc: Arc)
+    ensures { nodes.new ≡ set (set nodes.old arc.tail true) arc.head true }
 {
-    mark_node(nodes, tail as usize);
-    mark_node(nodes, head as usize);
+    mark_node(nodes, arc.tail as usize);
+    mark_node(nodes, arc.head as usize);
 }
 
 // The nodes that every route meets whatever else is marked: source, target and the ends of mandatory arcs.
-pub fn forced_nodes(header: Header, arcs: &[u32], marks: &[u8]) -> [bool; NODES]
-    requires { Sized header arcs.now marks.now }
-    ensures { ForcedNodes (sheet_of header arcs.now marks.now) result }
+pub fn forced_nodes<L: ArcList>(header: Header, arcs: &L, marks: &[Mark]) -> [bool; NODES]
+    requires { Sized header (L.arcs arcs.now) marks.now }
+    ensures { ForcedNodes (sheet_of header (L.arcs arcs.now) marks.now) result }
 {
     let mut forced = [false; NODES];
     for j in 0..header.arcs {
-        if marks[header.nodes + j] == MANDATORY {
-            mark_ends(&mut forced, arcs[j * 3], arcs[j * 3 + 1]);
+        if marks[header.nodes + j].is_mandatory() {
+            mark_ends(&mut forced, arcs.arc(j));
         }
     }
     mark_node(&mut forced, header.source);
@@ -44,15 +50,15 @@ pub fn forced_nodes(header: Header, arcs: &[u32], marks: &[u8]) -> [bool; NODES]
 }
 
 // Whether an item with this mark is required: mandatory, and an arc or a node that is not forced.
-fn is_required(item: usize, nodes: usize, mark: u8, forced: &[bool]) -> bool
+fn is_required(item: usize, nodes: usize, mark: Mark, forced: &[bool]) -> bool
     requires { nodes ≤ length forced.now }
     ensures { result ≡ (eqb mark 1 && not (ltb item nodes && get_or forced.now item false)) }
 {
-    mark == MANDATORY && !(item < nodes && forced[item])
+    mark.is_mandatory() && !(item < nodes && forced[item])
 }
 
 // Stores the item behind the `count` that were found before it, where the list has room. Gives how many were found with it.
-fn note_item(list: &mut [usize], count: usize, item: usize) -> usize
+fn note_item(list: &mut [u32], count: usize, item: u32) -> usize
     requires { count < 576 }
     ensures { (result ≡ count + 1) × (list.new ≡ set list.old count item) }
 {
@@ -62,17 +68,24 @@ fn note_item(list: &mut [usize], count: usize, item: usize) -> usize
     count + 1
 }
 
-// Whether some mark is mandatory. `contains` looks at many at a time.
-fn some_mandatory(marks: &[u8]) -> bool
-    ensures { result ≡ member 1 marks.now }
+// Whether some mark is mandatory. `fold` looks at many at a time, which `contains` does for plain bytes alone.
+fn some_mandatory(marks: &[Mark]) -> bool
+    ensures { result ≡ fold (λ some m. some || eqb m 1) false marks.now }
 {
-    marks.contains(&MANDATORY)
+    marks
+        .iter()
+        .fold(false, |some, &mark| some | mark.is_mandatory())
 }
 
 // Gives how many required items there are and writes as many of them, ascending, over the front of `list` as it has room for.
-pub fn required_items(header: Header, arcs: &[u32], marks: &[u8], list: &mut [usize]) -> usize
-    requires { Sized header arcs.now marks.now × (header.nodes ≤ 64) × (header.arcs ≤ 512) }
-    ensures { let S = sheet_of header arcs.now marks.now in
+pub fn required_items<L: ArcList>(
+    header: Header,
+    arcs: &L,
+    marks: &[Mark],
+    list: &mut [u32],
+) -> usize
+    requires { Sized header (L.arcs arcs.now) marks.now × (header.nodes ≤ 64) × (header.arcs ≤ 512) }
+    ensures { let S = sheet_of header (L.arcs arcs.now) marks.now in
         RoomListed (required S) list.old list.new result }
 {
     if !some_mandatory(marks) {
@@ -82,17 +95,17 @@ pub fn required_items(header: Header, arcs: &[u32], marks: &[u8], list: &mut [us
     let mut count: usize = 0;
     for (i, &mark) in marks.iter().enumerate() {
         if is_required(i, header.nodes, mark, &forced) {
-            count = note_item(list, count, i);
+            count = note_item(list, count, i as u32);
         }
     }
     count
 }
 
-// Whether at most eight items are required.
-pub fn few(header: Header, arcs: &[u32], marks: &[u8]) -> bool
-    requires { Sized header arcs.now marks.now × (header.nodes ≤ 64) × (header.arcs ≤ 512) }
-    ensures { result ≡ leb (length (required (sheet_of header arcs.now marks.now))) 8 }
+// Whether at most eight items are required. This and the two above are asked of numbers that are not judged yet, so they take no `Sheet`.
+pub fn few<L: ArcList>(header: Header, arcs: &L, marks: &[Mark]) -> bool
+    requires { Sized header (L.arcs arcs.now) marks.now × (header.nodes ≤ 64) × (header.arcs ≤ 512) }
+    ensures { result ≡ leb (length (required (sheet_of header (L.arcs arcs.now) marks.now))) 8 }
 {
-    let mut list = [0usize; 0];
+    let mut list = [0u32; 0];
     required_items(header, arcs, marks, &mut list) <= GOALS
 }

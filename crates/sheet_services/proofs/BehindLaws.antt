@@ -2,33 +2,17 @@
 use Prim.Native.Nat.{ℕ, ◌≤◌}
 use mathlib.Core.Path.{◌≡◌, sym, ap, ◌∙◌}
 use mathlib.Core.Bool.{true, false}
-use mathlib.Core.List.{List, ◌++◌, append_assoc}
-use native.Mathlib.Omega.{arith}
-use lib.ListN.{length, take, drop, length-append, take-append-drop}
-use lib.Seq.{length-take-le}
-use Rattle.std.proofs.lemmas.List.{drop-append-le}
+use mathlib.Core.List.{List, ◌++◌}
+use lib.ListN.{length, take, drop}
 use Rattle.lists.specs.Lists.{front}
-use Rattle.varint.specs.Varint.{Read, got, refuse, after, several}
+use Rattle.varint.specs.Varint.{got, refuse, after, several}
 use Rattle.work.proofs.ZeroLaws.{length_zeros}
 use Rattle.numbers.specs.Begun.{begun}
-use Rattle.numbers.proofs.SeveralLaws.{several_read}
+use Rattle.numbers.proofs.SeveralLaws.{several_read, part_got, part_refused, part_front}
 use Rattle.sheet.specs.Lent.{zeros}
 use Rattle.sheet.specs.Page.{no_service}
 use Rattle.sheet.specs.Reader.{read_service, some_service, read_services}
 use Rattle.sheet_services.specs.Services.{services_in, ServicesTaken, ServicesRefused}
-
--- n values of a kind, read over the first n places of a list
-module _ {A : Type 0} (f : List ℕ → Read A) (bs : List ℕ) {k n : ℕ} (size : k ≡ n) where
-  pub part_got : {xs : List A} {rest : List ℕ} → several f k bs ≡ got xs rest → several f n bs ≡ got (begun f n bs) rest
-  part_got {xs} {rest} q = let e = several_read f k bs xs rest (sym q) in rw (← size) (rw e.1 q)
-
-  pub part_refused : {e : ℕ} → several f k bs ≡ refuse e → several f n bs ≡ refuse e
-  part_refused q = rw (← size) q
-
-pub part_front : (xs d : List ℕ) (n : ℕ) {out : List ℕ} → out ≡ front xs (take n d) → length out ≡ n → n ≤ length d → out ++ drop n d ≡ front xs d
-part_front xs d n {out} e l h =
-    let few : length xs ≤ length (take n d) = omega (arith, length-take-le n d h, simp length-append at (sym (ap length e) ∙ l)) in
-    rw e (append_assoc xs (drop (length xs) (take n d)) (drop n d)) ∙ ap (xs ++◌) (sym (drop-append-le (length xs) (take n d) (drop n d) few) ∙ ap (drop (length xs)) (take-append-drop n d))
 
 module _ (n : ℕ) (bs : List ℕ) where
   -- none leads

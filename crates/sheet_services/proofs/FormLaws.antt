@@ -13,7 +13,6 @@ use Rattle.sheet.specs.Page.{no_service}
 use Rattle.sheet.specs.Reader.{lead, content}
 
 every_all : (f : ℕ → Bool) (xs : List ℕ) → list_all f xs ≡ every f xs
-unfolding every
 every_all f [] = refl
 every_all f (x ∷ xs) = ap (f x &&◌) (every_all f xs)
 

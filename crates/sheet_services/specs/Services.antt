@@ -2,7 +2,7 @@
 use Rattle.std.specs.Prelude.{ℕ, zero, suc, ◌+◌, ◌<◌, ◌≡◌, Bool, true, false, List, length}
 use Rattle.varint.specs.Varint.{got, refuse}
 use Rattle.numbers.specs.Begun.{begun}
-use Rattle.walks.specs.Graph.{Arc}
+use Rattle.walks.specs.declared.arc.Arc.{Arc}
 use Rattle.sheet.specs.Lent.{zeros}
 use Rattle.sheet.specs.Page.{service_of}
 use Rattle.sheet.specs.Reader.{read_service, read_services}

@@ -2,12 +2,10 @@
 
 #![tactic(auto)]
 
-ghost use Rattle.std.specs.Prelude.{◌≡◌, ◌*◌, ◌≤◌, length, take, IfErr, OnOk};
+ghost use Rattle.std.specs.Prelude.{◌≡◌, ◌≤◌, length, IfErr, OnOk};
 ghost use Rattle.lists.specs.Lists.{front};
 ghost use Rattle.varint.specs.Refusal.{number_of};
-ghost use Rattle.walks.specs.Flat.{arcs_of, flat};
 ghost use Rattle.sheet.specs.Good.{All};
-ghost use Rattle.sheet.specs.Lent.{zeros};
 ghost use Rattle.sheet.specs.Page.{served, no_service};
 ghost use Rattle.sheet.specs.Reader.{lead, content};
 ghost use Rattle.sheet_services.specs.Services.{services_in, ServicesTaken, ServicesRefused, Servable, leading};
@@ -16,6 +14,7 @@ use numbers::section;
 use sheet::LEAD;
 use sheet_values::Services;
 use varint::{Bytes, Refusal};
+use walks::arc::Arc;
 
 // Whether a 1 stands before the content of a sheet, and the bytes from its content on.
 pub fn lead_and_content(sheet: &[u8]) -> (bool, &[u8])
@@ -60,12 +59,12 @@ pub fn take_services(
     Ok(())
 }
 
-// Adds to each arc's minutes the service minutes of its head; tail, head and minutes of each arc stand in front of `arcs`.
-pub fn serve(arcs: &mut [u32], count: usize, services: &[u32])
-    requires { (3 * count ≤ length arcs.old) × All (Servable services.now) (arcs_of (take (3 * count) arcs.old)) }
-    ensures { arcs.new ≡ front (flat (served services.now (arcs_of (take (3 * count) arcs.old)))) arcs.old }
+// Adds to each arc's minutes the service minutes of its head.
+pub fn serve(arcs: &mut [Arc], services: &[u32])
+    requires { All (Servable services.now) arcs.old }
+    ensures { arcs.new ≡ served services.now arcs.old }
 {
-    for l in 0..count {
-        arcs[l * 3 + 2] += services[arcs[l * 3 + 1] as usize];
+    for l in 0..arcs.len() {
+        arcs[l].weight += services[arcs[l].head as usize];
     }
 }

@@ -8,27 +8,28 @@ ghost use Rattle.sheet.specs.Reader.{read_mark, read_service};
 use numbers::section::Kind;
 use sheet::SERVICE_END;
 use varint::{Bytes, Refusal};
+use walks::mark::Mark;
 
 const MARKS_END: u32 = 3;
 
 // The marks of places and legs.
-#[derive(Clone, Copy)]
+#[derive(Clone, Copy, Debug, PartialEq, Eq)]
 pub struct Marks;
 
 impl Kind for Marks {
-    type Value = u8;
+    type Value = Mark;
 
     ghost reads = { λ kind bs. read_mark bs };
 
     #[tactic(auto, using(crate::proofs::ReadLaws::mark_number))]
-    fn take(&self, bytes: &mut Bytes) -> Result<u8, Refusal> {
+    fn take(&self, bytes: &mut Bytes) -> Result<Mark, Refusal> {
         let mark = bytes.take_below(MARKS_END, Refusal::Mark)?;
-        Ok(mark as u8)
+        Ok(Mark::from(mark as u8))
     }
 }
 
-// The service minutes of places.
-#[derive(Clone, Copy)]
+// The service minutes of places. A kind of its own beside the marks: both are numbers below an end with one refusal, but a mark is stored as a `Mark`.
+#[derive(Clone, Copy, Debug, PartialEq, Eq)]
 pub struct Services;
 
 impl Kind for Services {

@@ -7,8 +7,8 @@ ghost use Rattle.sheet.specs.ArcView.{arc_view, place_of};
 ghost use Rattle.sheet.specs.Reader.{past};
 
 use numbers::section;
+use sheet_reader::page::Page;
 use varint::Bytes;
-use walks::{ARC_NUMBERS, ITEMS};
 
 // How many numbers stand in the header of a sheet's content, and for each arc.
 const HEADER_NUMBERS: usize = 5;
@@ -32,14 +32,13 @@ pub fn arc_view(sheet: &[u8], arc: u32) -> &[u8]
     ensures lies_in_sheet { (result.ref_ptr.0 ≡ sheet.entry.ref_ptr.0) × (result.ref_ptr.1 ≡ place_of sheet.now arc + sheet.entry.ref_ptr.1) }
     ensures bytes_of_arc { result.now ≡ arc_view sheet.now arc }
 {
-    let mut arcs = [0u32; ARC_NUMBERS];
-    let mut marks = [0u8; ITEMS];
-    let header = match sheet_reader::read(sheet, &mut arcs, &mut marks) {
-        Ok(header) => header,
+    let mut page = Page::empty();
+    let taken = match page.read(sheet) {
+        Ok(taken) => taken,
         Err(_) => return &sheet[0..0],
     };
     let earlier = arc as usize;
-    if header.arcs <= earlier {
+    if taken.header.arcs <= earlier {
         return &sheet[0..0];
     }
     let (_, content) = sheet_services::lead_and_content(sheet);

@@ -21,7 +21,7 @@ const HEADER_NUMBERS: usize = 5;
 // The bytes before the content of a sheet with service minutes: its leading 1.
 const LEAD_BYTES: usize = 1;
 
-// The five numbers in front, as they are written.
+// The five numbers in front, as they are written. Not a `From`, which may ask nothing: a count of any size fits no 32 bits.
 fn header_numbers(header: Header) -> [u32; HEADER_NUMBERS]
     requires { small (header_numbers header) ≡ true }
     ensures { result ≡ header_numbers header }

@@ -28,11 +28,11 @@ slip_parts v gs rs =
     ∙ sym (append_assoc (write_number v) (write_numbers (length gs ∷ gs)) (write_numbers (length rs ∷ rs)))
 
 pub small_cons : (x : ℕ) (xs : List ℕ) → small (x ∷ xs) ≡ true → (x < 268435456) × (small xs ≡ true)
-unfolding small every
+unfolding small
 small_cons x xs e = let w = and_true (ltb x 268435456) _ e in (ltb-true x 268435456 w.0, w.1)
 
 small_append : (xs ys : List ℕ) → small (xs ++ ys) ≡ true → (small xs ≡ true) × (small ys ≡ true)
-unfolding small every
+unfolding small
 small_append [] ys e = (refl, e)
 small_append (x ∷ xs) ys e =
     let w = and_true (ltb x 268435456) _ e in

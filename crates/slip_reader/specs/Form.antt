@@ -3,6 +3,7 @@ use Rattle.std.specs.Prelude.{ℕ, ◌&&◌, List, ◌∷◌, length, leb}
 use Rattle.varint.specs.Varint.{Read, after, number, read_number, write_numbers}
 use Rattle.numbers.specs.Begun.{begun}
 use Rattle.sheet.specs.Slip.{Slip, slip_goals}
+use Rattle.slip_reader.specs.Claim.{claim_number}
 use Rattle.slip_reader.specs.declared.form.NumberList.{NumberList}
 use Rattle.slip_reader.specs.declared.form.SlipForm.{SlipForm}
 
@@ -19,7 +20,7 @@ numbers_in l = begun read_number l.count l.bytes.now
 
 -- the slip that was read
 abbrev pub slip_in : SlipForm → Slip
-slip_in f = slip_from f.first (numbers_in f.goals) (numbers_in f.reasons)
+slip_in f = slip_from (claim_number f.claim) (numbers_in f.goals) (numbers_in f.reasons)
 
 -- a slip as it is read, up to the first fault; `read_slip` gives each fault the one number for a badly written slip
 unfoldable pub read_parts : List ℕ → Read Slip

@@ -9,21 +9,23 @@ ghost use Rattle.varint.specs.declared.refusal.Refusal.TheVariants.{BadSlip};
 ghost use Rattle.sheet.specs.Slip.{read_list, read_slip};
 ghost use Rattle.slip_reader.specs.Form.{numbers_in, slip_in, read_parts};
 
+pub mod claim;
 pub mod form;
 
+pub use claim::Claim;
 pub use form::{NumberList, SlipForm};
 use numbers::section;
-use numbers::section::Indices;
+use numbers::section::Plain;
 use varint::{Bytes, Refusal};
 
 impl NumberList<'_> {
     // Reads the numbers over the front of `out`, and gives them back.
-    pub fn read<'b>(&self, out: &'b mut [usize]) -> &'b [usize]
+    pub fn read<'b>(&self, out: &'b mut [u32]) -> &'b [u32]
         requires { self.now.count ≤ length out.old }
         ensures { result.now ≡ numbers_in self.now }
     {
         let listed = &mut out[..self.count as usize];
-        let _ = section::read_all(&Indices, &mut Bytes { rest: self.bytes }, listed);
+        let _ = section::read_all(&Plain, &mut Bytes { rest: self.bytes }, listed);
         listed
     }
 }
@@ -43,24 +45,21 @@ fn take_list<'a>(bytes: &mut Bytes<'a>) -> Result<NumberList<'a>, Refusal>
     })
 }
 
-// Reads the first number and the two lists, up to the first fault.
+// Reads the claim and the two lists, up to the first fault.
 #[tactic(auto, unfolding(crate::specs::Form::read_parts, varint::specs::Varint::number, varint::specs::Varint::judged, varint::specs::Varint::after, sheet::specs::Slip::slip_goals, sheet::specs::Slip::slip_reasons, sheet::specs::Slip::slip_end))]
 fn read_form(slip: &[u8]) -> Result<SlipForm, Refusal>
     ensures got { IfOk result (λ form. read_parts slip.now ≡ got (slip_in form) []) }
     ensures refused { IfErr result (λ why. read_parts slip.now ≡ refuse (number_of why)) }
 {
     let mut bytes = Bytes { rest: slip };
-    let first = bytes.take_number()?;
-    if first < 1 || 4 < first {
-        return Err(Refusal::BadSlip);
-    }
+    let claim = Claim::try_from(bytes.take_number()?)?;
     let goals = take_list(&mut bytes)?;
     let reasons = take_list(&mut bytes)?;
     if !bytes.rest.is_empty() {
         return Err(Refusal::BadSlip);
     }
     Ok(SlipForm {
-        first,
+        claim,
         goals,
         reasons,
     })

@@ -8,6 +8,7 @@ use Rattle.std.specs.List.{find}
 use Rattle.varint.specs.declared.refusal.Refusal.{Refusal}
 use Rattle.varint.specs.Refusal.{number_of}
 use Rattle.varint.specs.Varint.{refuse, after}
+use Rattle.walks.specs.declared.arc.Arc.{Arc}
 use Rattle.sheet.specs.Page.{sheet_on}
 use Rattle.sheet.specs.Reader.{page}
 use Rattle.sheet.specs.Sheet.{sheet_of}
@@ -31,7 +32,7 @@ module _ (s : Store) (sheet : List ℕ) where
   ask_refused why e = rw e
 
   -- a sheet that was read
-  module _ {h : Header} {arcs marks services : List ℕ} (L : LoadedPage sheet h arcs marks services) {t : Bool} (f : t ≡ fits_base (shelf_of s) (base_from h arcs services)) where
+  module _ {h : Header} {arcs : List Arc} {marks services : List ℕ} (L : LoadedPage sheet h arcs marks services) {t : Bool} (f : t ≡ fits_base (shelf_of s) (base_from h arcs services)) where
     fits : {u : Bool} → t ≡ u → fits_base (shelf_of s) (base_of L.on) ≡ u
     fits e = ap (fits_base (shelf_of s)) (page_base L) ∙ sym f ∙ e
 

@@ -10,8 +10,9 @@ use Rattle.std.specs.Prelude.{IsTrue, ◌↔◌}
 use lib.Seq.{take_at, take-suc-set}
 use Rattle.lists.proofs.TestLaws.{false_of}
 use Rattle.lists.specs.Lists.{front}
-use Rattle.walks.proofs.FlatLaws.{flat_arcs}
-use Rattle.walks.specs.Flat.{arcs_of, flat, graph_of}
+use Rattle.walks.proofs.FlatLaws.{arcs_flat, flat_arcs, length_flat}
+use Rattle.walks.specs.declared.arc.Arc.{Arc}
+use Rattle.walks.specs.Flat.{arcs_of, flat}
 use Rattle.sheet.specs.declared.Header.{Header}
 use Rattle.sheet.specs.Sheet.{Sheet}
 use Rattle.sheet_reader.specs.Loaded.{LoadedPage}
@@ -29,29 +30,26 @@ pub cut : {A : Type 0} (xs : List A) (k m n : ℕ) → length xs ≡ m → n ≡
 cut xs k m n l e = ap (λ (i : ℕ). take i xs) (e ∙ ap (min k) (sym l)) ∙ take_least k xs
 
 -- a store's base is a sheet's where the numbers that count are the same
-module _ (s : Store) (h : Header) (arcs services : List ℕ) (l : length s.legs ≡ 1536) (n : length arcs ≡ 3 * h.arcs) where
+module _ (s : Store) (h : Header) (arcs : List Arc) (services : List ℕ) (l : length s.legs ≡ 1536) where
   abbrev pub SameNumbers : Type 0
-  SameNumbers = (s.nodes ≡ h.nodes) × (s.source ≡ h.source) × (s.target ≡ h.target) × (take s.nodes s.services ≡ services) × (take (3 * s.arcs) s.legs ≡ arcs)
+  SameNumbers =
+      (s.nodes ≡ h.nodes) × (s.source ≡ h.source) × (s.target ≡ h.target) × (take s.nodes s.services ≡ services) × (take (3 * s.arcs) s.legs ≡ flat arcs)
 
   same_from : SameNumbers → base_from h arcs services ≡ base_in s
   unfolding base_in
-  same_from e = ap {B = Base} (λ (x : ℕ). record { graph = graph_of x arcs; services = services; source = h.source; target = h.target }) (sym e.0)
-      ∙ ap {B = Base} (λ (x : ℕ). record { graph = graph_of s.nodes arcs; services = services; source = x; target = h.target }) (sym e.1)
-      ∙ ap {B = Base} (λ (x : ℕ). record { graph = graph_of s.nodes arcs; services = services; source = s.source; target = x }) (sym e.2)
-      ∙ ap {B = Base} (λ (x : List ℕ). record { graph = graph_of s.nodes arcs; services = x; source = s.source; target = s.target }) (sym e.3)
-      ∙ ap {B = Base} (λ (x : List ℕ). record { graph = graph_of s.nodes x; services = take s.nodes s.services; source = s.source; target = s.target }) (sym e.4)
+  same_from e = let legs : arcs_of (take (3 * s.arcs) s.legs) ≡ arcs = rw e.4 (arcs_flat arcs) in rw (e.3, legs, e.0, e.1, e.2) refl
 
   same_back : base_from h arcs services ≡ base_in s → SameNumbers
   unfolding base_in
   same_back e =
       let legs = take (3 * s.arcs) s.legs in
       let c : length legs ≡ 3 * min s.arcs 512 = length-take (3 * s.arcs) s.legs ∙ rw l (omega arith) in
-      let g : flat (arcs_of arcs) ≡ flat (arcs_of legs) = ap (λ (B : Base). flat B.graph.arcs) e in (
+      let g : flat arcs ≡ flat (arcs_of legs) = ap (λ (B : Base). flat B.graph.arcs) e in (
         sym (ap (λ (B : Base). B.graph.nodes) e),
         sym (ap (λ (B : Base). B.source) e),
         sym (ap (λ (B : Base). B.target) e),
         sym (ap (λ (B : Base). B.services) e),
-        sym (sym (flat_arcs arcs h.arcs n) ∙ g ∙ flat_arcs legs (min s.arcs 512) c),
+        sym (g ∙ flat_arcs legs (min s.arcs 512) c),
       )
 
   pub base_told : {r : Bool} → (IsTrue r ↔ SameNumbers) → r ≡ same_base (base_in s) (base_from h arcs services)
@@ -74,17 +72,18 @@ module _ (s : Store) (base : Base) where
       there (suc k) (x ∷ xs) n l = refl
 
 -- the base that is written is the one that is shown
-pub based_as : (before s : Store) (h : Header) (arcs services : List ℕ) → length arcs ≡ 3 * h.arcs → length services ≡ h.nodes → s.nodes ≡ h.nodes
-    → s.arcs ≡ h.arcs → s.source ≡ h.source → s.target ≡ h.target → s.legs ≡ front arcs before.legs
-    → s.services ≡ front services before.services → s.count ≡ before.count → s.slots ≡ before.slots → Based before (base_from h arcs services) s
+pub based_as :
+    (before s : Store) (h : Header) (arcs : List Arc) (services : List ℕ) → length arcs ≡ h.arcs → length services ≡ h.nodes → s.nodes ≡ h.nodes
+    → s.arcs ≡ h.arcs → s.source ≡ h.source → s.target ≡ h.target → s.legs ≡ front (flat arcs) before.legs → s.services ≡ front services before.services
+    → s.count ≡ before.count → s.slots ≡ before.slots → Based before (base_from h arcs services) s
 unfolding base_in slips_in held_in
 based_as before s h arcs services l k n m p q e v c t =
-    let f : take (3 * s.arcs) s.legs ≡ arcs = rw (m, e) (take_at arcs _ (3 * h.arcs) l) in
+    let f : take (3 * s.arcs) s.legs ≡ flat arcs = rw (m, e) (take_at (flat arcs) _ (3 * h.arcs) (omega (arith, length_flat arcs, l))) in
     let g : take s.nodes s.services ≡ services = rw (n, v) (take_at services _ h.nodes k) in
-    record { base = rw (f, g, n, p, q); count = c; slips = rw (c, t) }
+    record { base = rw (f, g, n, p, q, arcs_flat arcs) refl; count = c; slips = rw (c, t) }
 
 -- the base of a sheet that was read is the one that its numbers make
-pub page_base : {sheet : List ℕ} {h : Header} {arcs marks services : List ℕ} (L : LoadedPage sheet h arcs marks services) → base_of L.on ≡ base_from h arcs services
+pub page_base : {sheet : List ℕ} {h : Header} {arcs : List Arc} {marks services : List ℕ} (L : LoadedPage sheet h arcs marks services) → base_of L.on ≡ base_from h arcs services
 unfolding base_of
 page_base {h = h} {arcs = arcs} L =
     ap {B = Base} (λ (S : Sheet). record { graph = S.graph; services = L.on.services; source = S.source; target = S.target }) L.means

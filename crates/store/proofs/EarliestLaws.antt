@@ -25,7 +25,6 @@ module _ (f : Nogood → Bool) where
       go false e ih = rw e ih
 
   pub any_shown : (ks : List Slot) → list_any (λ k. f (shown k)) ks ≡ any f (map shown ks)
-  unfolding any
   any_shown [] = refl
   any_shown (k ∷ ks) = ap (λ (b : Bool). f (shown k) || b) (any_shown ks)
 

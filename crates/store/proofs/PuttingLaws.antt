@@ -15,6 +15,7 @@ use Rattle.varint.specs.Refusal.{number_of, number_in}
 use Rattle.varint.specs.Varint.{Read, got, refuse, after}
 use Rattle.sheet.proofs.RefusalLaws.{AmongThese, refusing_is}
 use Rattle.sheet.proofs.SlipLaws.{slip_read}
+use Rattle.walks.specs.declared.arc.Arc.{Arc}
 use Rattle.sheet.specs.Lent.{zeroed, work_after}
 use Rattle.sheet.specs.Page.{Page, sheet_on}
 use Rattle.sheet.specs.Reader.{page}
@@ -151,7 +152,7 @@ module _ (before : Store) (sheet slip : List ℕ) where
   unfolding put_on after
   bad_sheet w e = rw e
 
-  module _ {h : Header} {arcs marks services : List ℕ} (L : LoadedPage sheet h arcs marks services) {r : Result Slot Refusal} (J : Judges (sheet_of h arcs marks) slip r) where
+  module _ {h : Header} {arcs : List Arc} {marks services : List ℕ} (L : LoadedPage sheet h arcs marks services) {r : Result Slot Refusal} (J : Judges (sheet_of h arcs marks) slip r) where
     good_sheet : put_on (shelf_of before) sheet slip ≡ after (read_slip slip) (put_slip (shelf_of before) L.on)
     unfolding put_on after
     good_sheet = rw L.took

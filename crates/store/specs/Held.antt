@@ -2,7 +2,8 @@
 -- there is room for.
 use Rattle.std.specs.Prelude.{ℕ, ◌*◌, List, map, take, replicate, Option, Some, None, Result, Ok, Err}
 use Rattle.varint.specs.declared.refusal.Refusal.{Refusal}
-use Rattle.walks.specs.Flat.{graph_of}
+use Rattle.walks.specs.declared.arc.Arc.{Arc}
+use Rattle.walks.specs.Flat.{arcs_of, graph_of}
 use Rattle.sheet.specs.Lent.{zeros}
 use Rattle.sheet.specs.declared.Header.{Header}
 use Rattle.store_rules.specs.Shelf.{Nogood, Base, Shelf, Found, missing, found}
@@ -11,12 +12,12 @@ use Rattle.store_slot.specs.Slot.{shown, empty_slot}
 use Rattle.store.specs.declared.Store.{Store}
 
 -- the base that a sheet's numbers make, and the one that a store's do
-abbrev pub base_from : Header → List ℕ → List ℕ → Base
+abbrev pub base_from : Header → List Arc → List ℕ → Base
 base_from h arcs services = record { graph = graph_of h.nodes arcs; services = services; source = h.source; target = h.target }
 
 unfoldable pub base_in : Store → Base
 base_in s =
-    record { graph = graph_of s.nodes (take (3 * s.arcs) s.legs); services = take s.nodes s.services; source = s.source; target = s.target }
+    record { graph = graph_of s.nodes (arcs_of (take (3 * s.arcs) s.legs)); services = take s.nodes s.services; source = s.source; target = s.target }
 
 -- the slots that count, and the slips that they show
 unfoldable pub held_in : Store → List Slot

@@ -4,15 +4,14 @@
 // A program in C lends the store, so it may hold any numbers: no count in it is trusted, and every store shows some shelf (`shelf_of`).
 #![tactic(auto)]
 
-ghost use Rattle.std.specs.Prelude.{◌≡◌, ◌&&◌, ◌+◌, ◌*◌, ◌≤◌, ◌<◌, ◌↔◌, length, leb, take, option_map, IsTrue, IfOk, IfErr};
+ghost use Rattle.std.specs.Prelude.{◌≡◌, ◌&&◌, ◌+◌, ◌*◌, ◌≤◌, ◌<◌, ◌↔◌, length, leb, take, option_map, IsTrue};
 ghost use Rattle.std.specs.List.{find, list_any};
-ghost use Rattle.varint.specs.Refusal.{number_of, number_in};
-ghost use Rattle.varint.specs.Varint.{refuse};
-ghost use Rattle.sheet.specs.Reader.{page};
+ghost use Rattle.lists.specs.Lists.{front};
+ghost use Rattle.varint.specs.Refusal.{number_in};
+ghost use Rattle.walks.specs.Flat.{flat};
 ghost use Rattle.sheet.specs.Sheet.{sheet_of};
 ghost use Rattle.sheet.specs.Slip.{read_slip};
-ghost use Rattle.sheet_required.specs.Whole.{Whole};
-ghost use Rattle.sheet_reader.specs.Loaded.{LoadedPage};
+ghost use Rattle.slip_reader.specs.Claim.{claim_number};
 ghost use Rattle.store_rules.specs.Shelf.{fits_base, subsumes};
 ghost use Rattle.store_rules.specs.Store.{put_on, put, ask};
 ghost use Rattle.store_slot.specs.Slot.{shown};
@@ -20,11 +19,14 @@ ghost use Rattle.store_slot.specs.Lists.{applies_by};
 ghost use Rattle.store.specs.Held.{base_from, held_in, shelf_of, empty_store, found_in};
 ghost use Rattle.store.specs.Steps.{PutAs, entered_on, Rest, Based, Added, Slotted, Judges};
 
-use sheet::Header;
-use slip_reader::SlipForm;
+use sheet_reader::page::{Page, ServicedSheet};
+use sheet_required::whole::Sheet;
+use slip_reader::{Claim, SlipForm};
 use store_slot::{SLOT_ITEMS, Slot};
 use varint::Refusal;
-use walks::{ARC_NUMBERS, ARCS, ITEMS, NODES};
+use walks::arc::Arc;
+use walks::mark::Mark;
+use walks::{ARC_NUMBERS, ARCS, NODES};
 
 // The most slips.
 pub const SLOTS: usize = 64;
@@ -33,7 +35,7 @@ pub const SLOTS: usize = 64;
 // arc, where a weight is the arc's minutes and the service minutes of its head; and the service minutes of each node. All plain numbers, since a program in C
 // lends it.
 #[repr(C)]
-#[derive(Clone, Copy)]
+#[derive(Clone, Copy, Debug, PartialEq, Eq)]
 pub struct Store {
     pub count: u32,
     pub nodes: u32,
@@ -46,63 +48,18 @@ pub struct Store {
 }
 
 // What put gives: the store, and whether the call finished.
-#[derive(Clone, Copy)]
+#[derive(Clone, Copy, Debug, PartialEq, Eq)]
 pub struct Putting {
     pub store: Store,
     pub outcome: Result<(), Refusal>,
 }
 
-// What a sheet is read into.
-#[derive(Drop)]
-struct Room {
-    arcs: [u32; ARC_NUMBERS],
-    marks: [u8; ITEMS],
-    services: [u32; NODES],
-}
-
-// A sheet that was taken, as it stands in a room: its arcs, three numbers each, its marks and its service minutes.
-#[derive(Clone, Copy)]
-struct Taken<'a> {
-    header: Header,
-    arcs: &'a [u32],
-    marks: &'a [u8],
-    services: &'a [u32],
-}
-
-impl Room {
-    fn empty() -> Room {
-        Room {
-            arcs: [0; ARC_NUMBERS],
-            marks: [0; ITEMS],
-            services: [0; NODES],
-        }
-    }
-
-    // Reads a sheet and lends what was read.
-    fn read<'a>(&'a mut self, sheet: &[u8]) -> Result<Taken<'a>, Refusal>
-        ensures took { IfOk result (λ p. LoadedPage sheet.now p.header p.arcs.now p.marks.now p.services.now) }
-        ensures refused { IfErr result (λ why. page sheet.now ≡ refuse (number_of why)) }
-    {
-        let header = sheet_reader::read_page(
-            sheet,
-            &mut self.arcs,
-            &mut self.marks,
-            &mut self.services,
-        )?;
-        Ok(Taken {
-            header,
-            arcs: &self.arcs[..3 * header.arcs],
-            marks: &self.marks[..header.nodes + header.arcs],
-            services: &self.services[..header.nodes],
-        })
-    }
-}
-
 // Whether a slip is one of a refused round and has at most 24 goals and reasons.
 fn fits_slot(form: &SlipForm) -> bool
-    ensures { result ≡ (leb form.now.first 3 && leb (form.now.goals.count + form.now.reasons.count) 24) }
+    ensures { result ≡ (leb (claim_number form.now.claim) 3 && leb (form.now.goals.count + form.now.reasons.count) 24) }
 {
-    form.first <= 3 && form.goals.count as usize + form.reasons.count as usize <= SLOT_ITEMS
+    form.claim != Claim::Struck
+        && form.goals.count as usize + form.reasons.count as usize <= SLOT_ITEMS
 }
 
 // The slot of a slip that check says yes to, on a sheet with this limit.
@@ -117,19 +74,52 @@ fn slot_of(slip: &[u8], limit: u32) -> Result<Slot, Refusal>
 }
 
 // Judges a slip against a sheet that was taken: 17, 18 and 20, whatever the store; or the slot that is to be put.
-fn judge(taken: &Taken, slip: &[u8]) -> Result<Slot, Refusal>
-    requires { Whole taken.now.header taken.now.arcs.now taken.now.marks.now }
-    ensures { let S = sheet_of taken.now.header taken.now.arcs.now taken.now.marks.now in Judges S slip.now result }
+fn judge(sheet: &Sheet, slip: &[u8]) -> Result<Slot, Refusal>
+    ensures { let S = sheet_of sheet.now.header sheet.now.arcs.now sheet.now.marks.now in Judges S slip.now result }
 {
-    let yes = checker::answer_taken(taken.header, taken.arcs, taken.marks, slip)?;
+    let yes = checker::answer_taken(sheet, slip)?;
     if !yes {
         return Err(Refusal::NotShelved);
     }
-    slot_of(slip, taken.header.limit)
+    slot_of(slip, sheet.header.limit)
+}
+
+// Whether the numbers are the arcs', tail, head and weight of each.
+fn same_legs(arcs: &[Arc], legs: &[u32]) -> bool
+    requires { length arcs.now ≤ 512 }
+    ensures { IsTrue result ↔ (legs.now ≡ flat arcs.now) }
+{
+    if legs.len() != 3 * arcs.len() {
+        return false;
+    }
+    for i in 0..arcs.len() {
+        let leg = Arc {
+            tail: legs[i * 3],
+            head: legs[i * 3 + 1],
+            weight: legs[i * 3 + 2],
+        };
+        if leg != arcs[i] {
+            return false;
+        }
+    }
+    true
+}
+
+// Puts the arcs over the front of the numbers, tail, head and weight of each.
+fn put_legs(arcs: &[Arc], legs: &mut [u32])
+    requires { 3 * length arcs.now ≤ length legs.old }
+    ensures { legs.new ≡ front (flat arcs.now) legs.old }
+{
+    for i in 0..arcs.len() {
+        let arc = arcs[i];
+        legs[i * 3] = arc.tail;
+        legs[i * 3 + 1] = arc.head;
+        legs[i * 3 + 2] = arc.weight;
+    }
 }
 
 impl Store {
-    // A store that holds nothing.
+    // A store that holds nothing. A function and no constant, since a constant promises nothing.
     #[tactic(auto, unfolding(crate::specs::Held::empty_store, crate::specs::Held::empty_slots, sheet::specs::Lent::zeros))]
     pub fn empty() -> Store
         ensures { result ≡ empty_store }
@@ -169,22 +159,21 @@ impl Store {
     }
 
     // Whether the store's map, service minutes, source and target are those of a sheet.
-    fn same_base(&self, taken: &Taken) -> bool
-        ensures { let h = taken.now.header in let s = self.now in
+    fn same_base(&self, taken: &ServicedSheet) -> bool
+        ensures { let h = taken.now.sheet.header in let s = self.now in
             IsTrue result ↔ ((s.nodes ≡ h.nodes) × (s.source ≡ h.source) × (s.target ≡ h.target)
-            × (take s.nodes s.services ≡ taken.now.services.now) × (take (3 * s.arcs) s.legs ≡ taken.now.arcs.now)) }
+            × (take s.nodes s.services ≡ taken.now.services.now) × (take (3 * s.arcs) s.legs ≡ flat taken.now.sheet.arcs.now)) }
     {
-        self.nodes as usize == taken.header.nodes
-            && self.source as usize == taken.header.source
-            && self.target as usize == taken.header.target
+        self.nodes as usize == taken.sheet.header.nodes
+            && self.source as usize == taken.sheet.header.source
+            && self.target as usize == taken.sheet.header.target
             && self.services() == taken.services
-            && self.legs() == taken.arcs
+            && same_legs(taken.sheet.arcs, self.legs())
     }
 
     // Whether a sheet may be put on the store or asked of it: the store has no slip, or is for the sheet's map, service minutes, source and target.
-    fn fits_base(&self, taken: &Taken) -> bool
-        requires { length taken.now.arcs.now ≡ 3 * taken.now.header.arcs }
-        ensures { result ≡ fits_base (shelf_of self.now) (base_from taken.now.header taken.now.arcs.now taken.now.services.now) }
+    fn fits_base(&self, taken: &ServicedSheet) -> bool
+        ensures { result ≡ fits_base (shelf_of self.now) (base_from taken.now.sheet.header taken.now.sheet.arcs.now taken.now.services.now) }
     {
         self.count == 0 || self.same_base(taken)
     }
@@ -213,16 +202,14 @@ impl Store {
     }
 
     // Takes a sheet's map, service minutes, source and target.
-    fn set_base(&mut self, taken: &Taken)
-        requires lists_of_header { (length taken.now.arcs.now ≡ 3 * taken.now.header.arcs) × (length taken.now.services.now ≡ taken.now.header.nodes) }
-        requires header_in_range { let h = taken.now.header in (h.nodes ≤ 64) × (h.arcs ≤ 512) × (h.source < 64) × (h.target < 64) }
-        ensures { Based self.old (base_from taken.now.header taken.now.arcs.now taken.now.services.now) self.new }
+    fn set_base(&mut self, taken: &ServicedSheet)
+        ensures { Based self.old (base_from taken.now.sheet.header taken.now.sheet.arcs.now taken.now.services.now) self.new }
     {
-        self.nodes = taken.header.nodes as u32;
-        self.arcs = taken.header.arcs as u32;
-        self.source = taken.header.source as u32;
-        self.target = taken.header.target as u32;
-        self.legs[..taken.arcs.len()].copy_from_slice(taken.arcs);
+        self.nodes = taken.sheet.header.nodes as u32;
+        self.arcs = taken.sheet.header.arcs as u32;
+        self.source = taken.sheet.header.source as u32;
+        self.target = taken.sheet.header.target as u32;
+        put_legs(taken.sheet.arcs, &mut self.legs);
         self.services[..taken.services.len()].copy_from_slice(taken.services);
     }
 
@@ -238,10 +225,8 @@ impl Store {
     // Puts a newcomer on the store: 22, another map, other service minutes, another source or target; nothing is changed where it is subsumed; 23, there is no
     // room. A function of its own in the compiled code too, so that its copy of the store is not on the stack while check runs.
     #[inline(never)]
-    fn enter(&mut self, taken: &Taken, slot: &Slot) -> Result<(), Refusal>
-        requires lists_of_header { (length taken.now.arcs.now ≡ 3 * taken.now.header.arcs) × (length taken.now.services.now ≡ taken.now.header.nodes) }
-        requires header_in_range { let h = taken.now.header in (h.nodes ≤ 64) × (h.arcs ≤ 512) × (h.source < 64) × (h.target < 64) }
-        ensures { let base = base_from taken.now.header taken.now.arcs.now taken.now.services.now in
+    fn enter(&mut self, taken: &ServicedSheet, slot: &Slot) -> Result<(), Refusal>
+        ensures { let base = base_from taken.now.sheet.header taken.now.sheet.arcs.now taken.now.services.now in
             PutAs self.old (entered_on (shelf_of self.old) base (shown slot.now)) self.new result }
     {
         if !self.fits_base(taken) {
@@ -265,9 +250,9 @@ impl Store {
     fn take(&mut self, sheet: &[u8], slip: &[u8]) -> Result<(), Refusal>
         ensures { PutAs self.old (put_on (shelf_of self.old) sheet.now slip.now) self.new result }
     {
-        let mut room = Room::empty();
-        let taken = room.read(sheet)?;
-        let slot = judge(&taken, slip)?;
+        let mut page = Page::empty();
+        let taken = page.read_serviced(sheet)?;
+        let slot = judge(&taken.sheet, slip)?;
         self.enter(&taken, &slot)
     }
 
@@ -289,19 +274,21 @@ impl Store {
             ≡ put (shelf_of self) sheet.now work.old slip.now)
             × (shelf_of result.store ≡ shelf_of self → result.store ≡ self) }
     {
-        if work.len() < work::WORK_NUMBERS {
-            return Putting {
+        match work::enough_work(work) {
+            Ok(()) => {
+                let answer = self.put_sheet(sheet, slip);
+                work::leave(work, work::number(&answer.outcome));
+                answer
+            }
+            Err(why) => Putting {
                 store: self,
-                outcome: Err(Refusal::ShortWork),
-            };
+                outcome: Err(why),
+            },
         }
-        let answer = self.put_sheet(sheet, slip);
-        work::leave(work, work::number(&answer.outcome));
-        answer
     }
 
     // The earliest put slip that applies by the marks and the limit.
-    fn first_applying(&self, marks: &[u8], limit: u32) -> Option<&Slot>
+    fn first_applying(&self, marks: &[Mark], limit: u32) -> Option<&Slot>
         ensures { option_map (λ k. k.now) result ≡ find (λ k. applies_by (shown k) marks.now limit) (held_in self.now) }
     {
         self.slips().iter().find(|kept| kept.applies(marks, limit))
@@ -312,13 +299,13 @@ impl Store {
     pub fn ask(&self, sheet: &[u8]) -> Result<Option<Slot>, Refusal>
         ensures { record { number = number_in result; found = found_in result } ≡ ask (shelf_of self.now) sheet.now }
     {
-        let mut room = Room::empty();
-        let taken = room.read(sheet)?;
+        let mut page = Page::empty();
+        let taken = page.read_serviced(sheet)?;
         if !self.fits_base(&taken) {
             return Err(Refusal::OtherMap);
         }
         Ok(
-            self.first_applying(taken.marks, taken.header.limit)
+            self.first_applying(taken.sheet.marks, taken.sheet.header.limit)
                 .copied(),
         )
     }

@@ -4,7 +4,7 @@ use mathlib.Core.Path.{◌≡◌, refl, sym, ap, ◌∙◌}
 use mathlib.Core.Bool.{true}
 use mathlib.Core.List.{List, [], ◌∷◌}
 use native.Mathlib.Omega.{arith}
-use lib.ListN.{length, take, length-take, length-append}
+use lib.ListN.{length, length-append}
 use lib.Dec.{ltb}
 use borrow.Author.Tests.{lt-ltb, le-ltb}
 use Rattle.lists.proofs.Pigeonhole.{Below, below_append, below_le, below_all}
@@ -14,7 +14,6 @@ use Rattle.varint.proofs.SizeLaws.{number_byte}
 use Rattle.varint.proofs.VarintLaws.{numbers_size}
 use Rattle.varint.proofs.WriteLaws.{small_below, numbers_rows}
 use Rattle.std.specs.Prelude.{Result}
-use Rattle.lists.proofs.FrontLaws.{take_least}
 use Rattle.varint.specs.declared.refusal.Refusal.{Refusal}
 use Rattle.varint.specs.Answer.{small}
 use Rattle.varint.specs.Varint.{Read, got, refuse, write_numbers}
@@ -106,23 +105,13 @@ module _ {k : Nogood} (h : Short k) where
       (omega arith, omega (arith, g, r, h.few))
 
 -- a slot that names items alone shows such a slip
-pub slot_short : (k : Slot) → length k.items ≡ 24 → Named (shown k) → Short (shown k)
+pub slot_short : (k : Slot) → length (goals_in k) + length (reasons_in k) ≤ 24 → Named (shown k) → Short (shown k)
 slot_short k l w = record { first = shown_first k; few = shown_few k l; named = w }
 
--- the goals are as many as they are told
-goals_taken : (k : Slot) → take (length (goals_in k)) k.items ≡ goals_in k
-unfolding goals_in
-goals_taken k = ap (λ (n : ℕ). take n k.items) (length-take k.goals k.items) ∙ take_least k.goals k.items
-
-pub goals_within : (k : Slot) {is gs : List ℕ} → is ≡ k.items → gs ≡ goals_in k → length gs ≤ length is
-unfolding goals_in
-goals_within k i g = let n = length-take k.goals k.items in rw (i, g, n) (omega arith)
-
 -- the slip of a slot, from its lists
-pub slot_slip : (k : Slot) {f : ℕ} {is gs rs : List ℕ} → f ≡ (shown k).first → is ≡ k.items → gs ≡ goals_in k → rs ≡ reasons_in k
-    → slip_from f (take (length gs) is) rs ≡ slip_of (shown k)
+pub slot_slip : (k : Slot) {f : ℕ} {gs rs : List ℕ} → f ≡ (shown k).first → gs ≡ goals_in k → rs ≡ reasons_in k → slip_from f gs rs ≡ slip_of (shown k)
 unfolding slip_of shown
-slot_slip k e i g r = rw (e, i, g, r, goals_taken k)
+slot_slip k e g r = rw (e, g, r)
 
 pub wrote_as : {s t : Slip} → s ≡ t → (d out : List ℕ) (n : ℕ) → Put (slip_bytes s) d out n → Put (slip_bytes t) d out n
 wrote_as e d out n w = rw e at w

@@ -178,11 +178,9 @@ ask_drawn K sheet =
 
 -- none of them is 0, and all fit the one number of a call
 pub put_fits : {e : ℕ} → AmongThese put_refusals e → (1 ≤ e) × (e ≤ 23)
-unfolding every
 put_fits d = these_fit put_refusals 23 refl (omega arith) d
 
 pub ask_fits : {e : ℕ} → AmongThese ask_refusals e → (1 ≤ e) × (e ≤ 23)
-unfolding every
 ask_fits d = these_fit ask_refusals 23 refl (omega arith) d
 
 -- the numbers that a call gives: put 0 where it finishes and 1 where it is lent too little work, ask 0

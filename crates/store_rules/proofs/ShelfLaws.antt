@@ -21,7 +21,8 @@ use Rattle.reason_rules.proofs.Demand3.{graph_on, demanded_mandatory}
 use Rattle.reason_rules.specs.Later.{SameMap, Demanded}
 use Rattle.walks.proofs.FlatLaws.{arcs_flat}
 use Rattle.walks.specs.Flat.{arcs_of, flat}
-use Rattle.walks.specs.Graph.{Graph, Arc, tail_of, head_of, weight_of, item_count}
+use Rattle.walks.specs.declared.arc.Arc.{Arc}
+use Rattle.walks.specs.Graph.{Graph, tail_of, head_of, weight_of, item_count}
 use Rattle.lists.proofs.EntryLaws.{every_same, subset_exact, alike_exact}
 use Rattle.store_rules.specs.Shelf.{Nogood, Base, Shelf, base_of, same_base, is_empty, fits_base, subsumes, applies, missing, found, earliest}
 
@@ -227,7 +228,7 @@ module _ (f : Nogood → Bool) where
   earliest_exact ks k = (earliest_is ks k, λ w. ap (earliest f) w.parts ∙ is_earliest w.before k w.after w.passes w.fail)
 
   pub earliest_missing : (ks : List Nogood) → (earliest f ks ≡ missing) ↔ (any f ks ≡ false)
-  unfolding earliest any
+  unfolding earliest
   earliest_missing [] = (λ e. refl, λ e. refl)
   earliest_missing (j ∷ ks) = go (f j) (earliest_missing ks)
     where

@@ -1,16 +1,15 @@
 -- Laws of a slot's lists: counts that are cut to the room there is take the same items. Assumes nothing.
 use Prim.Native.Nat.{ℕ, ◌+◌, ◌-◌, ◌≤◌, min}
 use mathlib.Core.Path.{◌≡◌, refl, sym, ap, ◌∙◌}
-use mathlib.Core.Bool.{Bool, true, false, ◌&&◌, true≢false}
-use mathlib.Core.List.{List, [], ◌∷◌, ◌++◌, append_assoc}
+use mathlib.Core.Bool.{Bool, true, false, ◌&&◌}
+use mathlib.Core.List.{List, ◌++◌, append_assoc}
 use native.Mathlib.Omega.{arith}
 use lib.ListN.{length, take, drop, length-take, length-drop, length-append}
-use Rattle.std.specs.List.{list_all, list_any}
 use lib.Seq.{take_all, take_at, drop_at}
-use lib.Dec.{eqb, leb}
-use borrow.Author.Tests.{le-leb, leb-true, eqb-true, eq-eqb, ne_eqb}
+use lib.Dec.{leb}
+use borrow.Author.Tests.{le-leb, leb-true}
 use Rattle.lists.proofs.FrontLaws.{take_least, drop_least, Room}
-use Rattle.lists.specs.Lists.{pick, member, every, subset, front}
+use Rattle.lists.specs.Lists.{pick, front}
 use Rattle.slip_reader.specs.Form.{slip_from}
 use Rattle.store_rules.specs.Shelf.{nogood_of}
 use Rattle.store_slot.specs.Slot.{goals_in, reasons_in, shown}
@@ -40,9 +39,13 @@ shown_first k = go (leb k.first 3) refl
     go true e = leb-true k.first 3 e
     go false e = omega arith
 
-pub shown_few : (k : Slot) → length k.items ≡ 24 → length (shown k).goals + length (shown k).reasons ≤ 24
-unfolding shown goals_in reasons_in
-shown_few k l = simp (length-take, length-drop) (omega (arith, l))
+pub few_shown : (k : Slot) → length k.items ≡ 24 → length (goals_in k) + length (reasons_in k) ≤ 24
+unfolding goals_in reasons_in
+few_shown k l = simp (length-take, length-drop) (omega (arith, l))
+
+pub shown_few : (k : Slot) → length (goals_in k) + length (reasons_in k) ≤ 24 → length (shown k).goals + length (shown k).reasons ≤ 24
+unfolding shown
+shown_few k l = l
 
 -- the lists that a slot shows, by the cut counts
 pub goals_cut : (k : Slot) → length k.items ≡ 24 → {g : ℕ} → g ≡ min k.goals 24 → take g k.items ≡ goals_in k
@@ -57,29 +60,6 @@ reasons_cut k l {g} {r} p q =
     let n : length (drop k.goals k.items) ≡ 24 - g = ap length (sym d) ∙ length-drop g k.items ∙ ap (◌- g) l in
     let s : r ≡ min k.reasons (length (drop k.goals k.items)) = q ∙ ap (min k.reasons) (sym n) in
     rw (d, ← n, take_all (length (drop k.goals k.items)) (drop k.goals k.items) (omega arith), s) (take_least k.reasons (drop k.goals k.items))
-
--- the tests of the lists by std's words
-eqb_turned : (a b : ℕ) → eqb a b ≡ eqb b a
-eqb_turned a b = go (eqb a b) refl
-  where
-    go : (t : Bool) → eqb a b ≡ t → t ≡ eqb b a
-    go true q = sym (eq-eqb b a (sym (eqb-true a b q)))
-    go false q = sym (ne_eqb b a (λ e. absurd (true≢false (sym (eq-eqb a b (sym e)) ∙ q))))
-
-member_any : (x : ℕ) (ys : List ℕ) → list_any (λ y. eqb y x) ys ≡ member x ys
-unfolding member
-member_any x [] = refl
-member_any x (y ∷ ys) = rw (member_any x ys, eqb_turned y x)
-
-pub subset_all : (xs ys : List ℕ) → list_all (λ x. list_any (λ y. eqb y x) ys) xs ≡ subset xs ys
-unfolding subset every
-subset_all [] ys = refl
-subset_all (x ∷ xs) ys = rw (subset_all xs ys, member_any x ys)
-
-pub every_all : (f : ℕ → Bool) (xs : List ℕ) → list_all f xs ≡ every f xs
-unfolding every
-every_all f [] = refl
-every_all f (x ∷ xs) = rw (every_all f xs)
 
 -- three tests, of which the last was told first: where it holds, and the first does or not
 pub last_fails : (a b : Bool) {c : Bool} → c ≡ false → false ≡ (a && (b && c))

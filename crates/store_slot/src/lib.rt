@@ -4,15 +4,16 @@
 #![tactic(auto)]
 
 ghost use Rattle.std.specs.Prelude.{◌≡◌, ◌++◌, ◌+◌, ◌≤◌, ◌==◌, min, length, get_or, eqb};
-ghost use Rattle.std.specs.List.{list_all, list_any};
+ghost use Rattle.std.specs.List.{list_all};
 ghost use Rattle.lists.specs.Lists.{front};
+ghost use Rattle.slip_reader.specs.Claim.{claim_number};
 ghost use Rattle.slip_reader.specs.Form.{slip_in};
 ghost use Rattle.store_rules.specs.Shelf.{subsumes, nogood_of};
 ghost use Rattle.store_slot.specs.Slot.{goals_in, reasons_in, shown, empty_slot};
 ghost use Rattle.store_slot.specs.Lists.{applies_by};
 
 use slip_reader::SlipForm;
-use walks::{FORBIDDEN, MANDATORY, OPEN};
+use walks::mark::Mark;
 
 // The most goals and reasons together.
 pub const SLOT_ITEMS: usize = 24;
@@ -29,22 +30,15 @@ pub struct Slot {
     pub items: [u32; SLOT_ITEMS],
 }
 
-// Whether the list has each of the entries.
-fn all_listed(entries: &[u32], list: &[u32]) -> bool
-    ensures { result ≡ list_all (λ x. list_any (λ y. y == x) list.now) entries.now }
-{
-    entries.iter().all(|entry| list.contains(entry))
-}
-
 // Whether the item has the mark; one past the marks is open.
-fn is_marked(marks: &[u8], item: u32, mark: u8) -> bool
+fn is_marked(marks: &[Mark], item: u32, mark: Mark) -> bool
     ensures { result ≡ eqb (get_or marks.now item 0) mark }
 {
-    marks.get(item as usize).copied().unwrap_or(OPEN) == mark
+    marks.get(item as usize).copied().unwrap_or(Mark::OPEN) == mark
 }
 
 // Whether each of the items has the mark.
-fn all_marked(marks: &[u8], items: &[u32], mark: u8) -> bool
+fn all_marked(marks: &[Mark], items: &[u32], mark: Mark) -> bool
     ensures { result ≡ list_all (λ x. eqb (get_or marks.now x 0) mark) items.now }
 {
     items.iter().all(|&item| is_marked(marks, item, mark))
@@ -63,7 +57,7 @@ fn read_items(form: &SlipForm, items: &mut [u32])
 }
 
 impl Slot {
-    // A slot that holds nothing.
+    // A slot that holds nothing. A function and no constant, since a constant promises nothing.
     #[tactic(auto, unfolding(crate::specs::Slot::empty_slot, sheet::specs::Lent::zeros))]
     pub fn empty() -> Slot
         ensures { result ≡ empty_slot }
@@ -79,13 +73,13 @@ impl Slot {
 
     // The slot of a slip that is well written, with its sheet's limit.
     pub fn of_slip(form: &SlipForm, limit: u32) -> Slot
-        requires { (form.now.first ≤ 3) × (form.now.goals.count + form.now.reasons.count ≤ 24) }
+        requires { (claim_number form.now.claim ≤ 3) × (form.now.goals.count + form.now.reasons.count ≤ 24) }
         ensures { shown result ≡ nogood_of limit (slip_in form.now) }
     {
         let mut items = [0; SLOT_ITEMS];
         read_items(form, &mut items);
         Slot {
-            first: form.first,
+            first: u32::from(form.claim),
             limit,
             goals: form.goals.count,
             reasons: form.reasons.count,
@@ -109,7 +103,8 @@ impl Slot {
 
     // The reasons that the slot shows, behind the goals.
     pub fn reasons(&self) -> &[u32]
-        ensures { result.now ≡ reasons_in self.now }
+        ensures shown { result.now ≡ reasons_in self.now }
+        ensures few { length (goals_in self.now) + length (reasons_in self.now) ≤ 24 }
     {
         let behind = &self.items[self.goal_count()..];
         &behind[..(self.reasons as usize).min(behind.len())]
@@ -130,16 +125,18 @@ impl Slot {
         if self.limit < other.limit {
             return false;
         }
-        all_listed(self.goals(), other.goals()) && all_listed(self.reasons(), other.reasons())
+        lists::all_listed(self.goals(), other.goals())
+            && lists::all_listed(self.reasons(), other.reasons())
     }
 
     // Whether the slip's reasons are forbidden and its goals mandatory by the marks, and the limit is no greater than its own.
-    pub fn applies(&self, marks: &[u8], limit: u32) -> bool
+    pub fn applies(&self, marks: &[Mark], limit: u32) -> bool
         ensures { result ≡ applies_by (shown self.now) marks.now limit }
     {
         if self.limit < limit {
             return false;
         }
-        all_marked(marks, self.reasons(), FORBIDDEN) && all_marked(marks, self.goals(), MANDATORY)
+        all_marked(marks, self.reasons(), Mark::FORBIDDEN)
+            && all_marked(marks, self.goals(), Mark::MANDATORY)
     }
 }

@@ -5,23 +5,23 @@ ghost use Rattle.std.specs.Prelude.{◌≡◌, [], ◌∷◌, ◌+◌, ◌<◌};
 ghost use Rattle.sheet.specs.Answer.{finished, answer_of};
 ghost use Rattle.sheet.specs.Sheet.{sheet_of};
 ghost use Rattle.sheet.specs.Slip.{slip_bytes};
-ghost use Rattle.sheet_required.specs.Whole.{Whole};
 ghost use Rattle.pass_rules.specs.Verdict.{reasons_for, slip_for};
 ghost use Rattle.reason_rules.specs.Reason.{reason_on};
 ghost use Rattle.cost_rules.specs.Cost.{cost_lines, cost_for, text_of, cost_text};
 ghost use Rattle.text_cost.specs.Told.{told_text};
 
 use cost_lines::Costs;
-use sheet::Header;
+use sheet_reader::page::Page;
+use sheet_required::whole::Sheet;
 use std::fmt;
 use text_answer::Refused;
 use varint::{Bytes, Refusal};
-use walks::{ARC_NUMBERS, ITEMS};
+use walks::ITEMS;
 
 // What is told of an item number and a sheet: what the closures cost, or a refusal.
 #[derive(Debug, Drop)]
 pub enum Told {
-    Costs(Costs),
+    Costs(Costs<ITEMS>),
     Refuses(Refusal),
 }
 
@@ -34,7 +34,7 @@ impl fmt::Display for Told {
         match self {
             Told::Costs(costs) => write!(f, "{costs}"),
             Told::Refuses(why) => {
-                let refused = Refused(*why);
+                let refused = Refused(u32::from(*why));
                 write!(f, "{refused}")
             }
         }
@@ -42,17 +42,18 @@ impl fmt::Display for Told {
 }
 
 // What is told of an item by the slip for it, with the closures that the slip lists.
-fn listed(header: Header, arcs: &[u32], marks: &[u8], item: usize, slip: &[u8]) -> Told
-    requires { Whole header arcs.now marks.now × (item < header.nodes + header.arcs)
-        × (slip_bytes (slip_for (sheet_of header arcs.now marks.now) 4 (item ∷ [])) ≡ slip.now) }
-    ensures { let S = sheet_of header arcs.now marks.now in
+fn listed(sheet: &Sheet, item: usize, slip: &[u8]) -> Told
+    requires { let s = sheet.now in (item < s.header.nodes + s.header.arcs)
+        × (slip_bytes (slip_for (sheet_of s.header s.arcs.now s.marks.now) 4 (item ∷ [])) ≡ slip.now) }
+    ensures { let s = sheet.now in
+        let S = sheet_of s.header s.arcs.now s.marks.now in
         told_text result ≡ cost_lines S item (reasons_for S (item ∷ [])) }
 {
     match slip_reader::judge_slip(slip) {
         Ok(form) => {
-            let mut list = [0usize; ITEMS];
+            let mut list = [0u32; ITEMS];
             let closures = form.reasons.read(&mut list);
-            Told::Costs(cost_lines::weigh(header, arcs, marks, item, closures))
+            Told::Costs(cost_lines::weigh(sheet, item, closures))
         }
         // never: reason wrote it
         Err(why) => Told::Refuses(why),
@@ -64,20 +65,9 @@ fn explained(sheet: &[u8], item: u32, slip: &[u8]) -> Told
     requires { reason_on sheet.now item ≡ finished slip.now }
     ensures { told_text result ≡ text_of (answer_of (cost_for item sheet.now)) }
 {
-    let mut arcs = [0u32; ARC_NUMBERS];
-    let mut marks = [0u8; ITEMS];
-    match sheet_reader::read(sheet, &mut arcs, &mut marks) {
-        Ok(header) => {
-            let numbers = 3 * header.arcs;
-            let items = header.nodes + header.arcs;
-            listed(
-                header,
-                &arcs[..numbers],
-                &marks[..items],
-                item as usize,
-                slip,
-            )
-        }
+    let mut page = Page::empty();
+    match page.read(sheet) {
+        Ok(taken) => listed(&taken, item as usize, slip),
         // never: reason has read it
         Err(why) => Told::Refuses(why),
     }
@@ -87,7 +77,7 @@ fn explained(sheet: &[u8], item: u32, slip: &[u8]) -> Told
 fn answered(sheet: &[u8], item: u32) -> Told
     ensures { told_text result ≡ text_of (answer_of (cost_for item sheet.now)) }
 {
-    let mut slip = [0u8; pass::SLIP_BYTES];
+    let mut slip = [0u8; work::SLIP_BYTES];
     match reason::reason_sheet(sheet, &mut slip, item) {
         Ok(length) => explained(sheet, item, &slip[..length]),
         Err(why) => Told::Refuses(why),

@@ -7,7 +7,8 @@ use Rattle.std.proofs.lemmas.Int.{ints}
 use Rattle.std.specs.Fmt.{decimal, digits, digits_onto, digit_glyph, signed_decimal}
 use borrow.Author.Tests.{le-leb, lt-leb, leb-true, leb-false}
 use lib.ListN.{length-append}
-use Rattle.text_lines.specs.Lines.{line, number_line, difference_line, lines}
+use Rattle.lists.proofs.Pigeonhole.{Below}
+use Rattle.text_lines.specs.Lines.{row, line, number_line, difference_line, lines}
 
 -- a difference that is not negative, and one that is
 pub difference_low : (k a : ℕ) → a ≤ k → difference_line k a ≡ number_line (k - a)
@@ -53,6 +54,14 @@ decimal_short n = omega (arith, onto_size 64 n false [])
 -- a line of one number
 pub one_size : (word : List ℕ) (x : ℕ) → length (line word (x ∷ [])) ≤ length word + 66
 one_size word x = simp length-append (omega (arith, decimal_short x))
+
+-- a line of numbers of 32 bits: a space and ten digits at most for each
+row_size : (xs : List ℕ) → Below 4294967296 xs → length (row xs) ≤ 11 * length xs
+row_size [] b = omega arith
+row_size (x ∷ xs) b = simp length-append (omega (arith, decimal_size x (omega (arith, b.0)), row_size xs b.1))
+
+pub line_size : (word xs : List ℕ) → Below 4294967296 xs → length (line word xs) ≤ length word + 11 * length xs + 1
+line_size word xs b = simp length-append (omega (arith, row_size xs b))
 
 -- ten digits at most and the line's end, and before them the minus
 pub number_size : (n : ℕ) → n < 2 ^ 32 → length (number_line n) ≤ 11

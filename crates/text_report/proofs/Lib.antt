@@ -1,2 +1,3 @@
 pub mod SlipTextLaws
 pub mod AnswerLaws
+pub mod SizeLaws

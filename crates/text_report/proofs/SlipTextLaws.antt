@@ -74,12 +74,12 @@ stands_is sheet slip ms S e z t m = let P = passed_slip sheet slip e in go P.rea
         record { longer = omega (arith, ap length y, new_marks_size R, n); few = k; printed = rw (eq-eqb (verdict_in slip) 0 z, t, m) }
 
 -- a refused round: its slip reads back
-record Blame (slip : List ℕ) : Type 0 where
+pub record Blame (slip : List ℕ) : Type 0 where
   pub read : Slip
   pub says : read_slip slip ≡ got read []
   pub small : Small read
 
-blame_is : (sheet slip : List ℕ) → pass_on sheet ≡ finished slip → (verdict_in slip ≡ 0 → ⊥) → Blame slip
+pub blame_is : (sheet slip : List ℕ) → pass_on sheet ≡ finished slip → (verdict_in slip ≡ 0 → ⊥) → Blame slip
 blame_is sheet slip e z = let P = passed_slip sheet slip e in go P.read slip P.kind refl
   where
     go : (R : Sheet) (bs : List ℕ) → PassSlipIs R bs → slip ≡ bs → Blame slip

@@ -10,20 +10,18 @@ ghost use Rattle.text_answer.specs.Report.{report_text};
 ghost use Rattle.text_answer.specs.Text.{blamed, slip_text, text, answer as answer_to};
 
 use arrayvec::ArrayVec;
+use sheet_reader::page::Page;
 use slip_reader::NumberList;
 use text_answer::Report;
-use walks::{ARC_NUMBERS, ITEMS};
 
 // The numbers of a slip's list.
 fn listed<const N: usize>(list: &NumberList) -> ArrayVec<u32, N>
     requires { list.now.count ≤ N }
     ensures { result.items ≡ numbers_in list.now }
 {
-    let count = list.count as usize;
     let mut numbers = [0u32; N];
-    numbers::values_at(list.bytes, 0, count, &mut numbers);
     let mut items = ArrayVec::new();
-    let _ = items.try_extend_from_slice(&numbers[..count]);
+    let _ = items.try_extend_from_slice(list.read(&mut numbers));
     items
 }
 
@@ -32,15 +30,11 @@ fn stands(sheet: &[u8], slip: &[u8]) -> Report
     requires { (pass_on sheet.now ≡ finished slip.now) × (verdict_in slip.now ≡ 0) }
     ensures { report_text result ≡ slip_text sheet.now slip.now }
 {
-    let mut arcs = [0u32; ARC_NUMBERS];
-    let mut marks = [0u8; ITEMS];
-    match sheet_reader::read(sheet, &mut arcs, &mut marks) {
-        Ok(header) => {
-            let items = header.nodes + header.arcs;
-            Report::Stands {
-                struck: text_answer::newly_forbidden(&marks[..items], slip),
-            }
-        }
+    let mut page = Page::empty();
+    match page.read(sheet) {
+        Ok(taken) => Report::Stands {
+            struck: text_answer::newly_forbidden(taken.marks, slip),
+        },
         // never: the pass has read it
         Err(why) => Report::Refuses(why),
     }
@@ -53,7 +47,7 @@ fn blames(slip: &[u8]) -> Report
 {
     match slip_reader::judge_slip(slip) {
         Ok(form) => Report::Blames {
-            verdict: form.first,
+            verdict: u32::from(form.claim),
             needs: listed(&form.goals),
             because: listed(&form.reasons),
         },
@@ -78,7 +72,7 @@ pub fn report(sheet: &[u8], work: &mut [u32]) -> Report
     ensures text_of_sheet { report_text result ≡ text sheet.now (answer_to sheet.now work.old) }
     ensures work_as_outcome { work.new ≡ (outcome (answer_to sheet.now work.old) work.old []).work }
 {
-    let mut slip = [0u8; pass::SLIP_BYTES];
+    let mut slip = [0u8; work::SLIP_BYTES];
     match pass::pass(sheet, work, &mut slip) {
         Ok(length) => finishes(sheet, &slip[..length]),
         Err(why) => Report::Refuses(why),

@@ -89,19 +89,19 @@ more w h g = more_at w.k w.xs w.size w.holds w.same w.small h g
 pub ruleset writing = (begun, room, within, more)
 
 pub small_at : (xs : List ℕ) (i : ℕ) → small xs ≡ true → i < length xs → get_or xs i 0 < 268435456
-unfolding small every
+unfolding small
 small_at [] i e h = absurd (omega arith)
 small_at (x ∷ xs) zero e h = ltb-true x 268435456 (and_true (ltb x 268435456) _ e).0
 small_at (x ∷ xs) (suc i) e h = small_at xs i (and_true (ltb x 268435456) _ e).1 (omega arith)
 
 -- numbers below a bound that is small enough are small, and small ones are below 2 to the 28
 pub small_below : (n : ℕ) (xs : List ℕ) → n ≤ 268435456 → Below n xs → small xs ≡ true
-unfolding small every
+unfolding small
 small_below n [] l b = refl
 small_below n (x ∷ xs) l b = true_and (lt-ltb x 268435456 (omega (arith, b.0))) (small_below n xs l b.1)
 
 pub below_small : (xs : List ℕ) → small xs ≡ true → Below 268435456 xs
-unfolding small every
+unfolding small
 below_small [] e = tt
 below_small (x ∷ xs) e = let s = and_true (ltb x 268435456) (small xs) e in (ltb-true x 268435456 s.0, below_small xs s.1)
 

@@ -5,7 +5,7 @@ ghost use Rattle.varint.specs.Refusal.{number_of};
 use crate::refusal::Refusal;
 
 // The bytes that are still to be read.
-#[derive(Clone, Copy)]
+#[derive(Clone, Copy, Debug, PartialEq, Eq)]
 pub struct Bytes<'a> {
     pub rest: &'a [u8],
 }

@@ -1,7 +1,7 @@
 // Numbers in groups of seven bits, lowest group first (docs/FORMATS.md, 'Numbers'): read and written.
 #![tactic(auto)]
 
-ghost use Rattle.std.specs.Prelude.{◌≡◌, ◌+◌, ◌≤◌, ◌<◌, length, drop};
+ghost use Rattle.std.specs.Prelude.{◌≡◌, ◌≤◌, ◌<◌, length};
 ghost use Rattle.lists.specs.Lists.{Put};
 ghost use Rattle.varint.specs.Varint.{write_number};
 

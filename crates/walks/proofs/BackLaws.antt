@@ -7,7 +7,8 @@ use native.Mathlib.Omega.{arith}
 use lib.ListN.{length}
 use Rattle.walks.proofs.Join.{meets_none, len_append, walk_append, walk_first}
 use Rattle.walks.proofs.LeastLaw.{Upto, Attained, is_least, least_unique, fit_walk, walk_fit}
-use Rattle.walks.specs.Graph.{Arc, Graph, tail_of, head_of, weight_of, arc_item, len, fit, least}
+use Rattle.walks.specs.declared.arc.Arc.{Arc}
+use Rattle.walks.specs.Graph.{Graph, tail_of, head_of, weight_of, arc_item, len, fit, least}
 use Rattle.walks.specs.Lengths.{Least, none, some}
 use Rattle.walks.specs.Walk.{Step, Stay, Walk}
 

@@ -5,7 +5,8 @@ use mathlib.Core.List.{List, [], ◌∷◌, ◌++◌}
 use native.Mathlib.Omega.{arith}
 use lib.ListN.{length, get_or}
 use Rattle.walks.specs.Flat.{arcs_of, flat}
-use Rattle.walks.specs.Graph.{Arc, no_arc}
+use Rattle.walks.specs.declared.arc.Arc.{Arc}
+use Rattle.walks.specs.Graph.{no_arc}
 
 pub arcs_flat : (xs : List Arc) → arcs_of (flat xs) ≡ xs
 unfolding arcs_of flat

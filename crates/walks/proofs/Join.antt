@@ -7,13 +7,13 @@ use mathlib.Core.List.{List, [], ◌∷◌, ◌++◌}
 use native.Mathlib.Omega.{arith}
 use Rattle.lists.proofs.MemberLaws.{member_head, member_tail, every_at, every_all, member_cases, member_one}
 use Rattle.lists.proofs.TestLaws.{and_true, not_true}
-use Rattle.lists.specs.Lists.{member, every}
+use Rattle.lists.specs.Lists.{member}
 use Rattle.walks.specs.Graph.{Graph, head_of, arc_item, items, len, meets, tail_of, chain, clear, fit}
 use Rattle.walks.specs.Walk.{Walk}
 
 module _ (G : Graph) where
   pub meets_none : (a : ℕ) (w : List ℕ) → meets G [] a w ≡ true
-  unfolding meets every
+  unfolding meets
   meets_none a w = refl
 
   pub meets_all : (gs : List ℕ) (a : ℕ) (w : List ℕ) → ((x : ℕ) → member x gs ≡ true → member x (items G a w) ≡ true) → meets G gs a w ≡ true

@@ -45,7 +45,7 @@ rest_left G a gs (l ∷ w) =
     ∙ left_cons a (arc_item G l ∷ items G (head_of G l) w) gs
 
 keep_none : (f : ℕ → Bool) (xs : List ℕ) → keep (λ x. not (f x)) xs ≡ [] → every f xs ≡ true
-unfolding keep every add
+unfolding keep add
 keep_none f [] e = refl
 keep_none f (x ∷ xs) e = go (f x) e (keep_none f xs)
   where
@@ -54,7 +54,7 @@ keep_none f (x ∷ xs) e = go (f x) e (keep_none f xs)
     go false e' ih = cc
 
 none_keep : (f : ℕ → Bool) (xs : List ℕ) → every f xs ≡ true → keep (λ x. not (f x)) xs ≡ []
-unfolding keep every add
+unfolding keep add
 none_keep f [] e = refl
 none_keep f (x ∷ xs) e = let s = and_true (f x) (every f xs) e in rw s.0 (none_keep f xs s.1)
 
@@ -68,7 +68,7 @@ rest_meets G goals a w e = keep_none (λ g. member g (items G a w)) goals (sym (
 
 module _ (G : Graph) (closed : ℕ → Bool) (goals : List ℕ) (b : ℕ) where
   walk_of : (a : ℕ) (w : List ℕ) → chain G a b w ≡ true → clear G closed a w ≡ true → Walk G closed a b w
-  unfolding chain clear items every
+  unfolding chain clear items
   walk_of a [] p q =
       let s = and_true (ltb a G.nodes) (eqb a b) p in
       let t = and_true (not (closed a)) true q in
@@ -90,7 +90,7 @@ module _ (G : Graph) (closed : ℕ → Bool) (goals : List ℕ) (b : ℕ) where
       )
 
   of_walk : (a : ℕ) (w : List ℕ) → Walk G closed a b w → (chain G a b w ≡ true) × (clear G closed a w ≡ true)
-  unfolding chain clear items every
+  unfolding chain clear items
   of_walk a [] W =
       (true_and (lt-ltb a G.nodes W.node) (eq-eqb a b W.there), rw W.open_node)
   of_walk a (l ∷ w) W =

@@ -6,10 +6,11 @@ use mathlib.Core.Bool.{Bool, true, false}
 use mathlib.Core.List.{List, [], ◌∷◌}
 use native.Mathlib.Omega.{arith}
 use lib.ListN.{length}
-use Rattle.lists.specs.Lists.{member, every, span}
+use Rattle.lists.specs.Lists.{member, span}
 use Rattle.walks.proofs.Bound.{len_bound}
 use Rattle.walks.proofs.LeastLaw.{IsLeast, is_least, fit_walk}
-use Rattle.walks.specs.Graph.{Graph, Arc, no_arc, tail_of, head_of, weight_of, arc_item, chain, items, len, clear, meets, fit, begin, onward, chains, against, least_of, least}
+use Rattle.walks.specs.declared.arc.Arc.{Arc}
+use Rattle.walks.specs.Graph.{Graph, tail_of, head_of, weight_of, arc_item, chain, items, len, clear, meets, fit, begin, onward, chains, against, least_of, least}
 use Rattle.walks.specs.Lengths.{Least, some, lesser}
 
 abbrev step : ℕ → ℕ → Arc
@@ -23,7 +24,7 @@ pub none_closed : ℕ → Bool
 none_closed i = false
 
 pub ring_least : least ring none_closed (7 ∷ 8 ∷ []) 1 0 ≡ some 11
-unfolding ring none_closed member every span no_arc tail_of head_of weight_of arc_item chain items len clear meets fit begin onward chains against least_of least lesser
+unfolding ring none_closed member span tail_of head_of weight_of arc_item chain items len clear meets fit begin onward chains against least_of least lesser
 ring_least = refl
 
 ring_weight : (l : ℕ) → l < length ring.arcs → weight_of ring l ≤ 1

@@ -1,20 +1,15 @@
 -- Graphs, walks and least lengths (document 01, 'Map, walk, round': map, place, leg and minutes are graph, node, arc and weight here).
 use Rattle.std.specs.Prelude.{ℕ, zero, suc, ◌+◌, ◌*◌, Bool, true, false, not, ◌&&◌, List, [], ◌∷◌, ◌++◌, map, get_or, length, eqb, ltb}
 use Rattle.lists.specs.Lists.{member, every, span}
+use Rattle.walks.specs.declared.arc.Arc.{Arc}
 use Rattle.walks.specs.Lengths.{Least, none, some, lesser, within}
-
--- a leg
-pub record Arc : Type 0 where
-  pub tail : ℕ
-  pub head : ℕ
-  pub weight : ℕ
 
 -- A map. Items are numbered once: the nodes 0, 1, .. and after them the arcs.
 pub record Graph : Type 0 where
   pub nodes : ℕ
   pub arcs : List Arc
 
-unfoldable pub no_arc : Arc
+abbrev pub no_arc : Arc
 no_arc = record { tail = 0; head = 0; weight = 0 }
 
 unfoldable pub tail_of : Graph → ℕ → ℕ

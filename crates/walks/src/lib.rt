@@ -1,14 +1,8 @@
 // Graphs, walks and least lengths: definitions and laws, and the marks and sizes that every crate above shares. The routines are in the crate `lengths`.
 #![tactic(auto)]
 
-// The mark of an item that a walk may meet or leave out.
-pub const OPEN: u8 = 0;
-
-// The mark of an item that a walk has to meet.
-pub const MANDATORY: u8 = 1;
-
-// The mark of an item that no walk may touch.
-pub const FORBIDDEN: u8 = 2;
+pub mod arc;
+pub mod mark;
 
 // The most nodes.
 pub const NODES: usize = 64;

@@ -7,5 +7,5 @@ unfoldable pub is_zeroed : ℕ → Bool
 is_zeroed number = eqb number 0 || ltb 13 number
 
 -- refusals 1 to 13 leave it as found
-unfoldable pub left : (List ℕ → List ℕ) → ℕ → List ℕ → List ℕ
+unfoldable pub left : {A : Type 0} → (List A → List A) → ℕ → List A → List A
 left zero number work = pick (is_zeroed number) (zero work) work

@@ -1,14 +1,11 @@
 -- `check_claim::all_marked` meets its contract: the closure tells of one item what `every` asks of each. Assumes nothing.
-use mathlib.Core.Path.{◌∙◌}
 use lib.ListN.{get_or}
 use lib.Dec.{eqb}
 use Rattle.std.proofs.Common.{rules, tests}
 use Rattle.std.proofs.lemmas.Iterator.{YieldsList-from_slice}
 use Rattle.std.proofs.lemmas.Iterator.Search.{all_from_yields_List}
-use Rattle.check_claim.proofs.GoalLaws.{every_all}
 use Rattle.check_claim.proofs.all_marked.Goals as goal
 
 pub returns : goal.returns
 returns c =
     all_from_yields_List (λ x. eqb (get_or c.args.marks.now x 0) c.args.mark) _ _ c.all.result c.all.ensures.ran (YieldsList-from_slice c.args.items.now cc) (λ x b q k. search (rules, tests))
-    ∙ every_all _ c.args.items.now

@@ -10,11 +10,12 @@ use Rattle.cost_lines.proofs.LengthLaws.{costs_are}
 use Rattle.cost_lines.proofs.weigh.Goals as goal
 
 pub length_opened-requires : goal.length_opened-requires
-length_opened-requires c =
-    ((c.args.marks.now, c.requires.0), c.requires.1, c.requires.2, c.requires.2 _ (place_member c.args.list.now c.loop-closure.closure-index (omega (arith, c.loop-closure-test.true))))
+length_opened-requires g c =
+    (c.requires.0, c.requires.1, c.requires.1 _ (place_member c.args.list.now c.loop-closure.closure-index (omega (arith, c.loop-closure-test.true))))
 
 pub returns : goal.returns
-returns c =
+returns g c =
     let a = c.args in
-    let whole = ap (flat_map (opened_line (sheet_of a.header a.arcs.now []) a.item a.list.now)) (take_all c.loop-closure.closure-index a.list.now (omega (arith, c.loop-closure-test.false))) in
-    costs_are a.header a.arcs.now a.marks.now a.list.now a.item (as_least c.length_through-length.result) _ c.length_through-length.ensures (c.loop-closure.invariant.1 ∙ whole)
+    let s = a.sheet.now in
+    let whole = ap (flat_map (opened_line (sheet_of s.header s.arcs.now []) a.item a.list.now)) (take_all c.loop-closure.closure-index a.list.now (omega (arith, c.loop-closure-test.false))) in
+    costs_are s.header s.arcs.now s.marks.now a.list.now a.item (as_least c.length_through-length.result) _ c.length_through-length.ensures (c.loop-closure.invariant.1 ∙ whole)

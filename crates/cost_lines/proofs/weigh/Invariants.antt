@@ -7,5 +7,5 @@ use Rattle.cost_lines.specs.Ask.{line_of}
 use Rattle.cost_lines.proofs.weigh.Given as goal
 
 abbrev pub invariant-loop-closure : goal.invariant-loop-closure
-invariant-loop-closure l =
-    (length l.opened.items ≤ l.closure-index) × (flat_map line_of l.opened.items ≡ flat_map (opened_line (sheet_of l.header l.arcs []) l.item l.list) (take l.closure-index l.list))
+invariant-loop-closure g l =
+    (length l.opened.items ≤ l.closure-index) × (flat_map line_of l.opened.items ≡ flat_map (opened_line (sheet_of l.sheet.header l.sheet.arcs.now []) l.item l.list) (take l.closure-index l.list))

@@ -9,7 +9,7 @@ pub overflow_add-items : goal.overflow_add-items
 overflow_add-items g c = let W = c.in-Ok.ensures.loaded.whole in omega (arith, W.few, W.proper.few)
 
 pub slice_bounds-legs-end : goal.slice_bounds-legs-end
-slice_bounds-legs-end g c = omega (arith, c.in-Ok.ensures.loaded.whole.few, c.read_page.auto.arcs, c.give_back.auto.legs)
+slice_bounds-legs-end g c = omega (arith, c.in-Ok.ensures.loaded.whole.few, c.legs_of-legs.ensures)
 
 pub slice_bounds-marks-end : goal.slice_bounds-marks-end
 slice_bounds-marks-end g c = let W = c.in-Ok.ensures.loaded.whole in omega (arith, W.few, W.proper.few, c.read_page.auto.marks)

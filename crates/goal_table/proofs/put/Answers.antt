@@ -1,10 +1,12 @@
 -- `goal_table::put` meets its contract: the set without goal `i` has a smaller number, so its entries are filled already; where it holds no goal, the source's row
 -- has the way to the entry. Assumes nothing.
-use Prim.Native.Nat.{ℕ, ◌^◌, ◌<◌}
+use Prim.Native.Nat.{ℕ, ◌+◌, ◌^◌, ◌<◌}
 use mathlib.Core.Path.{◌≡◌, sym, ◌∙◌}
 use mathlib.Core.List.{List}
 use native.Mathlib.Omega.{arith}
-use lib.ListN.{length, replicate}
+use lib.ListN.{length, get_or, replicate}
+use Rattle.walks.specs.Lengths.{Least, plus}
+use Rattle.goals.proofs.ToldLaws.{told_held}
 use Rattle.rows.specs.Held.{held}
 use Rattle.rows.specs.Net.{Net}
 use Rattle.goal_table.proofs.SetLaws.{has_below, but_some}
@@ -29,14 +31,17 @@ reach-way-requires c =
     let b = c.without-rest.ensures in
     let eight : List ℕ = replicate 8 0 in
     let some = but_some eight c.args.set.bits c.args.i c.requires.0.small c.requires.1 (λ o. c.if-len-eq1.false (c.len.ensures eight c.requires.0.small ∙ o)) in
-    (c.requires.0.long, omega (arith, b.0, some), omega (arith, b.0, c.requires.0.small), c.requires.0.entries c.args.i c.requires.1, c.requires.2)
+    (c.requires.0.long, omega (arith, b.0, some), omega (arith, b.0, c.requires.0.small), c.requires.0.entries c.args.i c.requires.1)
 
 pub returns : goal.returns
 returns c =
     let s = c in
+    let x = c.unwrap_or.result in
+    let held_sum = λ (p q : Least) (e : c.if-len-eq1.way' ≡ held s.args.cap p) (f : get_or s.args.work.now (584 + s.args.i) 0 ≡ held s.args.cap q).
+    c.unwrap_or.ensures ∙ told_held s.args.cap (plus p q) c.sum.result (c.sum.ensures p q e f) in
     rw c.entry.ensures (record {
       goal_done = λ N a goals few F.
-          put_one c.sum.result s.requires.0.small (has_below s.args.set.bits s.args.i (length goals) few s.requires.1) s.requires.0.long
-          (past_is F.filled s.args.i few s.requires.1 c.if-len-eq1.way' c.sum.result (way-is (goal.at.returns c).Joined-len-eq1 N a goals few F.filled) c.sum.ensures) F;
-      outside_table_unchanged = only_put s.args.work.now s.args.set.bits s.args.i c.sum.result s.requires.0.small c.without-rest.ensures.1;
+          put_one x s.requires.0.small (has_below s.args.set.bits s.args.i (length goals) few s.requires.1) s.requires.0.long
+          (past_is F.filled s.args.i few s.requires.1 c.if-len-eq1.way' x (way-is (goal.at.returns c).Joined-len-eq1 N a goals few F.filled) held_sum) F;
+      outside_table_unchanged = only_put s.args.work.now s.args.set.bits s.args.i x s.requires.0.small c.without-rest.ensures.1;
     })

@@ -14,7 +14,7 @@ use Rattle.goal_table.proofs.reach.Given as goal
 abbrev pub invariant-loop-i : goal.invariant-loop-i
 invariant-loop-i l =
     (k : ℕ) × Rest l.set.bits k l.rest.bits
-    × ((N : Net) (a : ℕ) (goals : List ℕ) → SetAsked N l.cap a goals l.set.bits l.node l.work → held l.cap (some l.best) ≡ held l.cap (any_in (graph N) (closed N) a l.node goals l.set.bits k))
+    × ((N : Net) (a : ℕ) (goals : List ℕ) → SetAsked N l.fn.cap a goals l.set.bits l.node l.work → held l.fn.cap (some l.best) ≡ held l.fn.cap (any_in (graph N) (closed N) a l.node goals l.set.bits k))
 
 abbrev pub decreases-loop-i : goal.decreases-loop-i
 decreases-loop-i l = l.rest.bits

@@ -7,4 +7,5 @@ use Rattle.greedy.proofs.fill_list.Given as goal
 
 abbrev pub invariant-loop-item : goal.invariant-loop-item
 invariant-loop-item l =
-    (length l.list ≡ length l.fn.list) × Going (task_is l.task) l.fn.marks l.fn.list l.item l.marks l.list l.listed l.links.numbers l.links.count l.work
+    (length l.list ≡ length l.fn.list)
+    × Going (task_is l.task) l.fn.marks l.fn.list l.item l.marks l.list l.listed l.links.arcs l.links.chains l.links.count l.work

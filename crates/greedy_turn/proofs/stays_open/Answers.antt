@@ -25,4 +25,8 @@ returns-then-fits_limit c =
 pub returns : goal.returns
 returns c =
     let f = c.fits_limit in
-    record { tells_whether_blocked = λ R. f.ensures.tells_whether_fits R ∙ c.if-fits_limit.false; goals_noted_if_open = λ _. f.ensures.goals_noted; rows_back_if_not = λ q. absurd (true≢false q) }
+    record {
+      tells_whether_blocked = λ R. f.ensures.tells_whether_fits R ∙ c.if-fits_limit.false;
+      goals_noted_if_open = λ _. f.ensures.goals_noted;
+      rows_back_if_not = λ q. absurd (true≢false q);
+    }

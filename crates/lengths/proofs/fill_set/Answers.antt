@@ -11,7 +11,7 @@ loop-i-init c = (refl, only_same c.args.work.now, 0, rest_begun c.args.set.bits,
 pub put-requires : goal.put-requires
 put-requires c =
     let l = c.loop-i in
-    (fits_kept c.requires.0 l.invariant.1 l.invariant.0, (rest_next l.invariant.3 c.in-Some.ensures.taken).in_set, c.requires.1)
+    (fits_kept c.requires l.invariant.1 l.invariant.0, (rest_next l.invariant.3 c.in-Some.ensures.taken).in_set)
 
 pub loop-i-preserved : goal.loop-i-preserved
 loop-i-preserved c =

@@ -9,14 +9,14 @@ use Rattle.lengths.proofs.fill_table.Goals as goal
 pub fill_set-requires : goal.fill_set-requires
 fill_set-requires c =
     let l = c.loop-bits in
-    let below : l.bits < 2 ^ c.args.count = omega (arith, c.loop-bits-test.true, shifted c.args.count c.requires.0.eight) in
-    (fits_kept (set_fits c.requires.0 below) l.invariant.1 l.invariant.0, c.requires.1)
+    let below : l.bits < 2 ^ c.args.count = omega (arith, c.loop-bits-test.true, shifted c.args.count c.requires.eight) in
+    fits_kept (set_fits c.requires below) l.invariant.1 l.invariant.0
 
 pub loop-bits-preserved : goal.loop-bits-preserved
 loop-bits-preserved c =
     let l = c.loop-bits in
     let t = c.fill_set in
-    let below : l.bits < 2 ^ c.args.count = omega (arith, c.loop-bits-test.true, shifted c.args.count c.requires.0.eight) in (
+    let below : l.bits < 2 ^ c.args.count = omega (arith, c.loop-bits-test.true, shifted c.args.count c.requires.eight) in (
       t.auto.work ∙ l.invariant.0,
       only_then l.invariant.1 t.ensures.outside_table_unchanged,
       λ N a goals q F. t.ensures.fills_set N a goals (rw q below) (l.invariant.2 N a goals q F),
@@ -25,5 +25,5 @@ loop-bits-preserved c =
 pub returns-clause-fills_table : goal.returns-clause-fills_table
 returns-clause-fills_table c N a goals q F =
     let l = c.loop-bits in
-    let all : l.bits ≡ 2 ^ c.args.count = omega (arith, c.loop-bits-test.false, l.auto.bits-end, shifted c.args.count c.requires.0.eight) in
+    let all : l.bits ≡ 2 ^ c.args.count = omega (arith, c.loop-bits-test.false, l.auto.bits-end, shifted c.args.count c.requires.eight) in
     subst (λ (n : ℕ). Filled N c.args.cap a goals n l.work) all (l.invariant.2 N a goals q F)

@@ -1,12 +1,10 @@
-use native.Mathlib.Omega.{arith}
-use Rattle.lists.proofs.TestedLaws.{ascends_more, ascends_fails, ascends_done}
+use Rattle.std.proofs.Common.{rules, tests}
+use Rattle.std.proofs.lemmas.List.Sorted.{answers_always}
+use Rattle.std.specs.Ordering.{partial_lt}
+use Rattle.lists.proofs.StdLaws.{next_answer}
 use Rattle.lists.proofs.ascending.Goals as goal
 
-pub returns-then-list-i : goal.returns-then-list-i
-returns-then-list-i c = ascends_fails _ _ c.loop-i.invariant.1 (omega arith) c.if-list-i.true
-
-pub loop-i-preserved : goal.loop-i-preserved
-loop-i-preserved c = (omega arith, ascends_more _ _ c.loop-i.invariant.1 (omega arith) c.if-list-i.false)
-
 pub returns : goal.returns
-returns c = ascends_done _ _ c.loop-i.invariant.1 c.loop-i-test.false
+returns g c =
+    next_answer (partial_lt g.T.PartialOrd.partial_cmp) _ _
+    (c.is_sorted_by.ensures.cases (partial_lt g.T.PartialOrd.partial_cmp) (answers_always _ _ _ (λ f a r f' q. search (rules, tests))))

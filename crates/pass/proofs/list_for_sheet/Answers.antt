@@ -12,15 +12,17 @@ list_reasons-requires c =
     let U = c.requires.blamed.0 in
     let W = U.whole in
     let f = c.any_forbidden.ensures in
-    record {
+    rw (c.net.ensures, c.query_of.ensures)
+    (record {
+      few_arcs = omega (arith, W.sized.0, W.few);
       goals_fit = (U.fit, omega (arith, W.sized.1, W.proper.few, W.few));
       listable = (c.requires.blamed.1, omega (arith, c.requires.blamed.2, W.sized.0, W.proper.few, W.few), W.source, W.target);
       no_walk_fits = (U.unmet, c.requires.rows_ready_if_forbidden (sym f ∙ c.if-any_forbidden.true));
-    }
+    })
 
 pub returns-then-any_forbidden : goal.returns-then-any_forbidden
 unfolding reasons_for
-returns-then-any_forbidden c = c.list_reasons.ensures
+returns-then-any_forbidden c = rw (c.net.ensures, c.query_of.ensures) at c.list_reasons.ensures
 
 pub returns : goal.returns
 unfolding reasons_for

@@ -5,4 +5,6 @@ use Rattle.pass_marks.proofs.MarkingLaws.{Marking}
 use Rattle.pass_marks.proofs.put_marks.Given as goal
 
 abbrev pub invariant-loop-item : goal.invariant-loop-item
-invariant-loop-item l = Marking (sheet_of l.header l.arcs l.marks) (l.header.nodes + l.header.arcs) l.initial.out l.out l.item
+invariant-loop-item l =
+    let s = l.rows.sheet in
+    Marking (sheet_of s.header s.arcs.now s.marks.now) (s.header.nodes + s.header.arcs) l.initial.out l.out l.item

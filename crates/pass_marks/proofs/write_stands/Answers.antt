@@ -10,5 +10,6 @@ use Rattle.pass_marks.proofs.write_stands.Goals as goal
 pub returns : goal.returns
 returns c =
     let m = c.put_marks in
-    let S = sheet_of c.args.header c.args.arcs.now c.args.marks.now in
-    (omega (arith, new_marks_size S, items_are c.requires.0.whole), zero_front c.args.slip.now c.requires.1 (new_marks S) m.new.out m.ensures)
+    let s = c.args.rows.now.sheet in
+    let S = sheet_of s.header s.arcs.now s.marks.now in
+    (omega (arith, new_marks_size S, items_are s.whole), zero_front c.args.slip.now c.requires (new_marks S) m.new.out m.ensures)

@@ -8,4 +8,6 @@ use Rattle.pass_rules.specs.Verdict.{fits_sheet}
 use Rattle.pass_verdict.proofs.first_unmet.Given as goal
 
 abbrev pub invariant-loop-item : goal.invariant-loop-item
-invariant-loop-item l = (j : ℕ) → j < l.item → (is_mandatory (sheet_of l.header l.arcs l.marks) j && not (fits_sheet (sheet_of l.header l.arcs l.marks) (j ∷ []))) ≡ false
+invariant-loop-item l =
+    let s = l.rows.sheet in
+    (j : ℕ) → j < l.item → (is_mandatory (sheet_of s.header s.arcs.now s.marks.now) j && not (fits_sheet (sheet_of s.header s.arcs.now s.marks.now) (j ∷ []))) ≡ false

@@ -1,11 +1,11 @@
 -- `reason::explain_item` meets its contract: 15 for no item, 16 for one that is not pruned, and else the slip of its own goal. Assumes nothing.
+use Prim.Native.Nat.{◌+◌, ◌<◌}
 use mathlib.Core.Path.{sym, ap, ◌∙◌}
 use mathlib.Core.List.{List, [], ◌∷◌}
 use native.Mathlib.Omega.{arith}
 use lib.ListN.{length}
 use Rattle.lists.specs.Lists.{front}
 use Rattle.sheet.specs.Slip.{slip_bytes}
-use Rattle.item_fits.proofs.AskedLaws.{whole_sought}
 use Rattle.pass.proofs.OutcomeLaws.{wrote_none, wrote_bytes}
 use Rattle.pass.specs.Blamed.{Blamed}
 use Rattle.reason.proofs.ItemLaws.{no_item, not_pruned, pruned, blamed, item_slip, item_room}
@@ -13,36 +13,35 @@ use Rattle.reason.proofs.explain_item.Goals as goal
 use Rattle.reason.proofs.explain_item.Goals.{Else-not-is_pruned}
 
 -- no walk within the limit meets the item
-unmet : (p : goal.Else-not-is_pruned) → Blamed p.args.header p.args.arcs.now p.args.marks.now (p.args.item ∷ [])
-unmet p =
-    blamed p.requires.0 p.args.item p.if-header-item.false (sym p.is_pruned.ensures ∙ p.if-not-is_pruned.false)
+unmet : (p : Else-not-is_pruned) → Blamed p.args.sheet.now.header p.args.sheet.now.arcs.now p.args.sheet.now.marks.now (p.args.item ∷ [])
+unmet p = blamed p.args.sheet.now.whole p.args.item (omega arith) (sym p.is_pruned.ensures ∙ p.if-not-is_pruned.false)
 
-pub returns-then-header-item : goal.returns-then-header-item
-returns-then-header-item c = wrote_none (no_item c.requires.0 c.args.item c.if-header-item.true)
+pub returns-then-items-item : goal.returns-then-items-item
+returns-then-items-item c = wrote_none (no_item c.args.sheet.now.whole c.args.item (omega arith))
 
 pub returns-then-not-is_pruned : goal.returns-then-not-is_pruned
 returns-then-not-is_pruned c =
-    wrote_none (not_pruned c.requires.0 c.args.item c.if-header-item.false (sym c.is_pruned.ensures ∙ c.if-not-is_pruned.true))
+    wrote_none (not_pruned c.args.sheet.now.whole c.args.item (omega arith) (sym c.is_pruned.ensures ∙ c.if-not-is_pruned.true))
 
-pub ready_rows-requires : goal.ready_rows-requires
-ready_rows-requires c =
-    let u = unmet (goal.at.ready_rows-requires c).Else-not-is_pruned in
-    record { sought = (whole_sought u.whole u.fit, omega (arith, c.requires.1, c.is_pruned.auto.scratch)); rows_ready_if_first_is_three = λ q. absurd (omega arith) }
+pub ready_rows-requires-clause-goals_and_scratch_fit : goal.ready_rows-requires-clause-goals_and_scratch_fit
+ready_rows-requires-clause-goals_and_scratch_fit c =
+    let u = unmet (goal.at.ready_rows-requires-clause-goals_and_scratch_fit c).Else-not-is_pruned in
+    rw (c.net.ensures, c.query_of.ensures) (u.fit, omega (arith, c.requires.0, c.is_pruned.auto.scratch), u.whole.source)
 
-pub list_for_sheet-n-requires : goal.list_for_sheet-n-requires
-list_for_sheet-n-requires c =
-    let t = c.ready_rows in
-    record { blamed = (unmet (goal.at.list_for_sheet-n-requires c).Else-not-is_pruned, omega (arith, c.requires.1, t.auto.scratch, c.is_pruned.auto.scratch), omega arith); rows_ready_if_forbidden = t.ensures }
+pub list_for_sheet-n-requires-clause-blamed : goal.list_for_sheet-n-requires-clause-blamed
+list_for_sheet-n-requires-clause-blamed c =
+    (unmet (goal.at.list_for_sheet-n-requires-clause-blamed c).Else-not-is_pruned, omega (arith, c.requires.0, c.ready_rows.auto.scratch, c.is_pruned.auto.scratch), omega arith)
 
 pub write_slip-requires : goal.write_slip-requires
 write_slip-requires c =
-    let whole = item_room c.requires.0 c.args.item c.if-header-item.false _ c.requires.2 _ c.list_for_sheet-n.ensures in
-    record { numbers_small = whole.0; slip_fits = whole.1 }
+    let room = item_room c.args.sheet.now.whole c.args.item (omega arith) _ c.requires.1 _ c.list_for_sheet-n.ensures in
+    rw c.from-first.ensures (record { numbers_small = room.0; slip_fits = room.1 })
 
 pub returns : goal.returns
 returns c =
-    let l = c.if-header-item.false in
-    let w = c.write_slip.ensures in
-    let e = ap slip_bytes (item_slip c.requires.0 c.args.item l _ c.list_for_sheet-n.ensures) in
-    wrote_bytes _ (pruned c.requires.0 c.args.item l (sym c.is_pruned.ensures ∙ c.if-not-is_pruned.false))
+    let W = c.args.sheet.now.whole in
+    let l : c.args.item < c.args.sheet.now.header.nodes + c.args.sheet.now.header.arcs = omega arith in
+    let w = rw c.from-first.ensures at c.write_slip.ensures in
+    let e = ap slip_bytes (item_slip W c.args.item l _ c.list_for_sheet-n.ensures) in
+    wrote_bytes _ (pruned W c.args.item l (sym c.is_pruned.ensures ∙ c.if-not-is_pruned.false))
     ((w.0 ∙ ap length e, w.1 ∙ ap (λ (xs : List _). front xs c.args.slip.now) e))

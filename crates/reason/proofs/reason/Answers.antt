@@ -1,19 +1,13 @@
 -- `reason::reason` meets its contract: 1 and 2, or what the sheet draws with the work left by that. Assumes nothing.
+use Rattle.std.proofs.Common.{rules, of_calls}
 use Rattle.reason_rules.proofs.WithinLaws.{reason_within}
 use Rattle.reason_rules.specs.Reason.{reason_on, reasoned}
-use Rattle.pass.proofs.OutcomeLaws.{short_work, short_slip, with_work}
+use Rattle.pass.proofs.OutcomeLaws.{lent_outcome}
 use Rattle.reason.proofs.reason.Goals as goal
-
-pub returns-then-work-lt-WORK_NUMBERS : goal.returns-then-work-lt-WORK_NUMBERS
-unfolding reasoned
-returns-then-work-lt-WORK_NUMBERS c = short_work (reason_on c.args.sheet.now c.args.item) c.args.work.now c.args.slip.now c.if-work-lt-WORK_NUMBERS.true
-
-pub returns-then-slip-lt-SLIP_BYTES : goal.returns-then-slip-lt-SLIP_BYTES
-unfolding reasoned
-returns-then-slip-lt-SLIP_BYTES c = short_slip (reason_on c.args.sheet.now c.args.item) c.args.work.now c.args.slip.now c.if-work-lt-WORK_NUMBERS.false c.if-slip-lt-SLIP_BYTES.true
 
 pub returns : goal.returns
 unfolding reasoned
 returns c =
-    with_work (reason_on c.args.sheet.now c.args.item) c.args.work.now c.args.slip.now c.if-work-lt-WORK_NUMBERS.false c.if-slip-lt-SLIP_BYTES.false (reason_within c.args.sheet.now c.args.item) _
-    c.reason_sheet-answer.ensures c.number.ensures c.leave.ensures
+    let e = c.lent.ensures in
+    lent_outcome (reason_on c.args.sheet.now c.args.item) c.args.work.now c.args.slip.now (reason_within c.args.sheet.now c.args.item) c.lent.result e.short_work e.short_slip
+    (λ l m. search (rules, of_calls)) e.work_left

@@ -6,10 +6,10 @@ use Rattle.sheet.specs.Answer.{Answer, wrote}
 use Rattle.reason.proofs.SaidLaws.{bad_sheet, on_sheet}
 use Rattle.reason.proofs.reason_sheet.Goals as goal
 
-pub returns-in_err-header : goal.returns-in_err-header
-returns-in_err-header c =
-    let e = wrote_none {slip = c.args.slip.now} (bad_sheet _ c.args.item _ c.in_err-header.ensures.refused) in
+pub returns-in_err-taken : goal.returns-in_err-taken
+returns-in_err-taken c =
+    let e = wrote_none {slip = c.args.slip.now} (bad_sheet _ c.args.item _ c.in_err-taken.ensures.taken_refused) in
     search rules
 
 pub returns : goal.returns
-returns c = c.explain_taken.ensures ∙ ap (λ (a : Answer). wrote a c.args.slip.now) (sym (on_sheet _ _ _ c.in_ok-header.ensures.loaded.makes))
+returns c = c.explain_taken.ensures ∙ ap (λ (a : Answer). wrote a c.args.slip.now) (sym (on_sheet _ _ _ c.in_ok-taken.ensures.loaded.makes))

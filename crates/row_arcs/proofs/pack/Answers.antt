@@ -1,7 +1,6 @@
 -- What the invariant does not show of `pack` by itself.
 use mathlib.Core.Path.{◌≡◌, refl, sym, ◌∙◌}
 use mathlib.Core.Bool.{true≢false}
-use Prim.Native.Nat.{◌*◌}
 use native.Mathlib.Omega.{arith}
 use Rattle.lists.specs.Lists.{Put}
 use Rattle.row_arcs.specs.OpenArcs.{open_to, open_arcs}
@@ -21,11 +20,11 @@ loop-arc-preserved c =
     elim c.if-is_open.branch [
       | then-is_open w ↦ (
         omega (arith, w.count-is),
-        rw (w.packed-is, w.count-is, w.put_arc.ensures) (put_open N l.arc l.count c.args.packed.now l.packed (omega arith) (c.is_open.ensures.0 w.if-is_open.true) l.invariant.1),
+        rw (w.packed-is, w.count-is, w.arc.ensures) (put_open N l.arc l.count c.args.packed.now l.packed (omega arith) (c.is_open.ensures.0 w.if-is_open.true) l.invariant.1),
       )
       | else-is_open w ↦ (
         omega (arith, w.count-is),
-        rw (w.packed-is, w.count-is) (left_out N l.arc (l.count * 3) c.args.packed.now l.packed (λ o. true≢false (sym (c.is_open.ensures.1 o) ∙ w.if-is_open.false)) l.invariant.1),
+        rw (w.packed-is, w.count-is) (left_out N l.arc l.count c.args.packed.now l.packed (λ o. true≢false (sym (c.is_open.ensures.1 o) ∙ w.if-is_open.false)) l.invariant.1),
       )
     ]
 
@@ -33,6 +32,6 @@ pub returns : goal.returns
 returns c =
     let l = c.loop-arc in
     let q : l.arc ≡ count c.args.net.now = omega arith in
-    let w : Put (open_arcs c.args.net.now) c.args.packed.now l.packed (l.count * 3) = rw (← q) l.invariant.1 in
+    let w : Put (open_arcs c.args.net.now) c.args.packed.now l.packed l.count = rw (← q) l.invariant.1 in
     let P = packs c.args.net.now c.args.packed.now c.requires w in
     (P.within, P.packed, P.most, w)

@@ -5,4 +5,5 @@ use Rattle.row_fill.proofs.fill_row.Goals as goal
 pub returns-clause-least_lengths : goal.returns-clause-least_lengths
 returns-clause-least_lengths c =
     let r = c.requires in
-    blank_mended _ r.arcs_chained.0 r.row_and_start_fit.1 r.row_and_start_fit.3 r.row_and_start_fit.0 (c.fill.ensures.after (λ _ e. e)) c.mend_row.ensures.0
+    let below = rw c.length.ensures.0 at c.length.ensures.1 in
+    blank_mended _ r.arcs_chained.0 r.row_and_start_fit.1 below r.row_and_start_fit.0 (c.fill.ensures.after (λ _ e. e)) c.mend_row.ensures.0

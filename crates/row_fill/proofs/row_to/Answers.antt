@@ -11,5 +11,6 @@ returns c =
     let r = c.row_from in
     let e = r.new.row in
     let n = c.net.inside in
+    let few = rw (← c.net.view_is) at c.requires.few_arcs in
     subst (λ (N : Net). RowTo N c.args.cap c.args.to e × NoneBehind N.nodes e) c.net.view_is
-    (row_to n.nodes n.arcs.now c.turn.new.back n.marks.now (omega arith) c.turn.ensures c.args.cap c.args.to e r.ensures.0, r.ensures.1)
+    (row_to n.nodes n.arcs.now c.turn.new.back n.marks.now (omega (arith, few)) c.turn.ensures c.args.cap c.args.to e r.ensures.0, r.ensures.1)

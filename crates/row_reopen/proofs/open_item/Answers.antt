@@ -1,9 +1,7 @@
 -- `row_reopen::open_item` meets its contract: a node opens with all rows mended, an arc with those that it cuts; an arc to a closed node changes nothing. Assumes nothing.
-use Prim.Native.Nat.{◌*◌, ◌-◌, ◌<◌}
+use mathlib.Core.Path.{sym, ◌∙◌}
 use native.Mathlib.Omega.{arith}
-use borrow.Author.Tests.{eq-eqb, ne_eqb}
 use lib.ListN.{take}
-use Rattle.rows.specs.Net.{arc_count}
 use Rattle.rows.proofs.BitLaws.{bit_own}
 use Rattle.row_reopen.proofs.ItemLaws.{item_node, item_arc, item_shut}
 use Rattle.row_reopen.proofs.open_item.Goals as goal
@@ -14,27 +12,32 @@ returns-then-item-net c =
     let i = c.net.inside in
     let m = c.mend_all in
     rw (← c.net.view_is)
-    (item_node i.nodes i.arcs.now a.item a.cap i.marks.now (take (a.links.now.count * 3) a.links.now.numbers) a.starts.now a.work.now
-    m.new.work m.result.bits c.entering.result c.requires.item_and_cap.1 c.if-item-net.true (rw c.arcs.ensures at c.entering.ensures) m.ensures.cut_rows_saved
-    m.ensures.rows_mended m.ensures.away_same_and_others_spared.0 m.ensures.away_same_and_others_spared.1)
+    (item_node i.nodes i.arcs.now a.item a.cap i.marks.now (take a.links.now.count a.links.now.arcs) a.starts.now a.work.now
+    m.new.work m.result.bits c.entering.result (rw c.length.ensures.0 at c.length.ensures.1) c.if-item-net.true (rw c.arcs.ensures at c.entering.ensures)
+    m.ensures.cut_rows_saved m.ensures.rows_mended m.ensures.away_same_and_others_spared.0 m.ensures.away_same_and_others_spared.1)
 
-pub returns-then-marks-head-eq-FORBIDDEN : goal.returns-then-marks-head-eq-FORBIDDEN
-returns-then-marks-head-eq-FORBIDDEN c =
+pub returns-then-is_closed : goal.returns-then-is_closed
+returns-then-is_closed c =
     let a = c.args in
     let i = c.net.inside in
+    let v = rw (← c.net.view_is) at c.head-head.ensures.0 in
+    let q = rw (← c.net.view_is) at (sym c.is_closed.ensures ∙ c.if-is_closed.true) in
     rw (← c.net.view_is)
-    (item_shut i.nodes i.arcs.now a.item a.cap i.marks.now (take (a.links.now.count * 3) a.links.now.numbers) a.starts.now a.work.now c.requires.item_and_cap.1
-    (omega arith) (eq-eqb _ _ c.if-marks-head-eq-FORBIDDEN.true))
+    (item_shut i.nodes i.arcs.now a.item a.cap i.marks.now (take a.links.now.count a.links.now.arcs) a.starts.now a.work.now
+    (rw c.length.ensures.0 at c.length.ensures.1) (omega arith) (rw v at q))
 
 pub returns : goal.returns
 returns c =
     let a = c.args in
     let i = c.net.inside in
+    let u = rw (← c.net.view_is) at c.tail-tail.ensures in
+    let v = rw (← c.net.view_is) at c.head-head.ensures.0 in
+    let w = rw (← c.net.view_is) at c.arc.ensures in
+    let q = rw (← c.net.view_is) at (sym c.is_closed.ensures ∙ c.if-is_closed.false) in
     let m = c.mend_all-2 in
-    let p = c.net.invariant.0 in
-    let l : a.item - i.nodes < arc_count i.arcs.now = omega (arith, rw (← c.net.view_is) at c.requires.item_and_cap.0) in
+    let e = rw (u.0, w) at m.ensures in
     rw (← c.net.view_is)
-    (item_arc i.nodes i.arcs.now a.item a.cap i.marks.now (take (a.links.now.count * 3) a.links.now.numbers) a.starts.now a.work.now
-    m.new.work m.result.bits _ c.requires.item_and_cap.1 (omega arith) (ne_eqb _ _ c.if-marks-head-eq-FORBIDDEN.false)
-    (bit_own _ (omega (arith, p.tails (a.item - i.nodes) l, p.few))) m.ensures.cut_rows_saved m.ensures.rows_mended
-    m.ensures.away_same_and_others_spared.0 m.ensures.away_same_and_others_spared.1)
+    (item_arc i.nodes i.arcs.now a.item a.cap i.marks.now (take a.links.now.count a.links.now.arcs) a.starts.now a.work.now
+    m.new.work m.result.bits _ (rw c.length.ensures.0 at c.length.ensures.1) (omega arith) (rw v at q)
+    (bit_own _ (omega (arith, rw u.0 at u.1, c.net.invariant.few))) e.cut_rows_saved e.rows_mended
+    e.away_same_and_others_spared.0 e.away_same_and_others_spared.1)

@@ -1,26 +1,21 @@
--- What the invariant does not show of `take_arcs` by itself.
+-- `take_arcs` reads over the first `count` places.
+use lib.Seq.{length-take-le}
 use Rattle.std.proofs.Common.{rules}
-use mathlib.Core.Path.{sym}
-use native.Mathlib.Omega.{arith}
-use Rattle.numbers.proofs.SeveralLaws.{start, more, stops, done}
-use Rattle.sheet_parts.proofs.SectionLaws.{flat_none, arc_stored}
+use Rattle.sheet.specs.Reader.{read_arc}
+use Rattle.numbers.specs.Begun.{begun}
+use Rattle.numbers.proofs.SeveralLaws.{part_got, part_front}
 use Rattle.sheet_parts.proofs.take_arcs.Goals as goal
 
-pub loop-i-init : goal.loop-i-init
-loop-i-init c = start _ _ _ _ _ flat_none
-
-pub returns-in_err-tail-clause-refused : goal.returns-in_err-tail-clause-refused
-returns-in_err-tail-clause-refused c = let stopped = sym (stops c.loop-i.invariant c.loop-i-test.true (sym c.in_err-tail.ensures.refused)).0 in search rules
-
-pub returns-in_err-tail-clause-arcs_in_front : goal.returns-in_err-tail-clause-arcs_in_front
-returns-in_err-tail-clause-arcs_in_front c = (stops c.loop-i.invariant c.loop-i-test.true (sym c.in_err-tail.ensures.refused)).1
-
-pub loop-i-preserved : goal.loop-i-preserved
-loop-i-preserved c =
-    more c.loop-i.invariant c.loop-i-test.true (sym c.in_ok-tail.ensures.got) (arc_stored c.loop-i.invariant (omega arith) _ _ _ c.loop-i-test.true)
+pub returns-in_err-read_all-clause-arcs_in_front : goal.returns-in_err-read_all-clause-arcs_in_front
+returns-in_err-read_all-clause-arcs_in_front c =
+    let size = length-take-le c.args.count c.args.arcs.now c.requires in
+    part_front (begun (read_arc c.args.nodes) c.args.count c.args.bytes.now.rest.now) c.args.arcs.now c.args.count (rw size at c.read_all.ensures.in_front) (search rules) c.requires
 
 pub returns-clause-got : goal.returns-clause-got
-returns-clause-got c = sym (done c.loop-i.invariant c.loop-i-test.false).0
+returns-clause-got c =
+    part_got (read_arc c.args.nodes) c.args.bytes.now.rest.now (length-take-le c.args.count c.args.arcs.now c.requires) c.in_ok-read_all.ensures.got
 
 pub returns-clause-arcs_in_front : goal.returns-clause-arcs_in_front
-returns-clause-arcs_in_front c = (done c.loop-i.invariant c.loop-i-test.false).1
+returns-clause-arcs_in_front c =
+    let size = length-take-le c.args.count c.args.arcs.now c.requires in
+    part_front (begun (read_arc c.args.nodes) c.args.count c.args.bytes.now.rest.now) c.args.arcs.now c.args.count (rw size at c.read_all.ensures.in_front) (search rules) c.requires

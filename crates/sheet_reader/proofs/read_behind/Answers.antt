@@ -24,14 +24,14 @@ returns-then-not-is_empty-clause-refused c = bytes_left (leading c.args.leads) c
 pub returns-then-not-is_empty-clause-services_in_front : goal.returns-then-not-is_empty-clause-services_in_front
 returns-then-not-is_empty-clause-services_in_front c = rw (services_left (leading c.args.leads) c.args.header c.args.section.now c.in_ok-take_lists.ensures.got) c.take_services.ensures.services_in_front
 
-pub returns-then-few_required-clause-got : goal.returns-then-few_required-clause-got
-returns-then-few_required-clause-got c = all_taken (leading c.args.leads) c.args.header c.args.section.now c.in_ok-take_lists.ensures.got (c.in_ok-take_services.ensures.got.taken (sheet_behind c.args.header c.args.section.now) refl) (eqb-true _ 0 (sym c.is_empty.ensures ∙ c.if-not-is_empty.false)) (sym c.if-few_required.true ∙ count_held (leading c.args.leads) c.args.header c.args.section.now c.in_ok-take_lists.ensures.got c.args.arcs.now c.args.marks.now c.take_lists.ensures.arcs_in_front c.take_lists.ensures.marks_in_front c.few_required.ensures)
+pub returns-then-few-clause-got : goal.returns-then-few-clause-got
+returns-then-few-clause-got c = all_taken (leading c.args.leads) c.args.header c.args.section.now c.in_ok-take_lists.ensures.got (c.in_ok-take_services.ensures.got.taken (sheet_behind c.args.header c.args.section.now) refl) (eqb-true _ 0 (sym c.is_empty.ensures ∙ c.if-not-is_empty.false)) (sym c.if-few.true ∙ count_held (leading c.args.leads) c.args.header c.args.section.now c.in_ok-take_lists.ensures.got c.args.arcs.now c.args.marks.now c.take_lists.ensures.arcs_in_front c.take_lists.ensures.marks_in_front c.few.ensures)
 
-pub returns-then-few_required-clause-services_in_front : goal.returns-then-few_required-clause-services_in_front
-returns-then-few_required-clause-services_in_front c = rw (services_left (leading c.args.leads) c.args.header c.args.section.now c.in_ok-take_lists.ensures.got) c.take_services.ensures.services_in_front
+pub returns-then-few-clause-services_in_front : goal.returns-then-few-clause-services_in_front
+returns-then-few-clause-services_in_front c = rw (services_left (leading c.args.leads) c.args.header c.args.section.now c.in_ok-take_lists.ensures.got) c.take_services.ensures.services_in_front
 
-pub returns-else-few_required-clause-refused : goal.returns-else-few_required-clause-refused
-returns-else-few_required-clause-refused c = too_many (leading c.args.leads) c.args.header c.args.section.now c.in_ok-take_lists.ensures.got (c.in_ok-take_services.ensures.got.taken (sheet_behind c.args.header c.args.section.now) refl) (eqb-true _ 0 (sym c.is_empty.ensures ∙ c.if-not-is_empty.false)) (sym c.if-few_required.false ∙ count_held (leading c.args.leads) c.args.header c.args.section.now c.in_ok-take_lists.ensures.got c.args.arcs.now c.args.marks.now c.take_lists.ensures.arcs_in_front c.take_lists.ensures.marks_in_front c.few_required.ensures)
+pub returns-else-few-clause-refused : goal.returns-else-few-clause-refused
+returns-else-few-clause-refused c = too_many (leading c.args.leads) c.args.header c.args.section.now c.in_ok-take_lists.ensures.got (c.in_ok-take_services.ensures.got.taken (sheet_behind c.args.header c.args.section.now) refl) (eqb-true _ 0 (sym c.is_empty.ensures ∙ c.if-not-is_empty.false)) (sym c.if-few.false ∙ count_held (leading c.args.leads) c.args.header c.args.section.now c.in_ok-take_lists.ensures.got c.args.arcs.now c.args.marks.now c.take_lists.ensures.arcs_in_front c.take_lists.ensures.marks_in_front c.few.ensures)
 
-pub returns-else-few_required-clause-services_in_front : goal.returns-else-few_required-clause-services_in_front
-returns-else-few_required-clause-services_in_front c = rw (services_left (leading c.args.leads) c.args.header c.args.section.now c.in_ok-take_lists.ensures.got) c.take_services.ensures.services_in_front
+pub returns-else-few-clause-services_in_front : goal.returns-else-few-clause-services_in_front
+returns-else-few-clause-services_in_front c = rw (services_left (leading c.args.leads) c.args.header c.args.section.now c.in_ok-take_lists.ensures.got) c.take_services.ensures.services_in_front

@@ -19,9 +19,6 @@ returns-in_err-header-clause-marks_in_front c = rw (header_refused (leading c.ar
 pub returns-in_err-header-clause-services_in_front : goal.returns-in_err-header-clause-services_in_front
 returns-in_err-header-clause-services_in_front c = rw (header_refused (leading c.args.leads) c.args.content.now c.in_err-header.ensures.refused).1.1.1 refl
 
-pub read_behind-requires : goal.read_behind-requires
-read_behind-requires c = let f = c.in_ok-header.ensures.fits in (f.few, f.arcs, c.requires.0, c.requires.1, c.requires.2)
-
 pub returns-in_err-read_behind-clause-refused : goal.returns-in_err-read_behind-clause-refused
 returns-in_err-read_behind-clause-refused c = let stopped = (header_read (leading c.args.leads) c.args.content.now c.in_ok-header.ensures.got).0 ∙ c.in_err-read_behind.ensures.refused in search rules
 

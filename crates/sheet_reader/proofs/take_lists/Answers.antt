@@ -4,7 +4,7 @@ use native.Mathlib.Omega.{arith}
 use lib.ListN.{length-take}
 use Rattle.numbers.specs.Begun.{begun}
 use Rattle.sheet.specs.Reader.{read_mark}
-use Rattle.sheet_services.proofs.BehindLaws.{part_got, part_refused, part_front}
+use Rattle.numbers.proofs.SeveralLaws.{part_got, part_refused, part_front}
 use Rattle.sheet_reader.specs.Answer.{arcs_behind}
 use Rattle.sheet_reader.proofs.TakenLaws.{arcs_refused, marks_left, marks_refused, lists_read}
 use Rattle.sheet_reader.proofs.take_lists.Goals as goal

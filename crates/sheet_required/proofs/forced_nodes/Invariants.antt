@@ -3,4 +3,4 @@ use Rattle.sheet_required.proofs.RequiredLaws.{Ending}
 use Rattle.sheet_required.proofs.forced_nodes.Given as goal
 
 abbrev pub invariant-loop-j : goal.invariant-loop-j
-invariant-loop-j l = Ending l.header l.arcs l.marks l.j l.forced
+invariant-loop-j g l = Ending l.header (g.L.ArcList.arcs l.arcs) l.marks l.j l.forced

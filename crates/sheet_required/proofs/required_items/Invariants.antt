@@ -5,4 +5,4 @@ use Rattle.sheet_required.proofs.RequiredLaws.{Listing}
 use Rattle.sheet_required.proofs.required_items.Given as goal
 
 abbrev pub invariant-loop-i : goal.invariant-loop-i
-invariant-loop-i l = Listing (is_required (sheet_of l.header l.arcs l.marks)) (length l.marks) l.initial.list l.list l.count l.i
+invariant-loop-i g l = Listing (is_required (sheet_of l.header (g.L.ArcList.arcs l.arcs) l.marks)) (length l.marks) l.initial.list l.list l.count l.i

@@ -3,4 +3,4 @@ use Rattle.sheet_services.proofs.ServeLaws.{Serving}
 use Rattle.sheet_services.proofs.serve.Given as goal
 
 abbrev pub invariant-loop-l : goal.invariant-loop-l
-invariant-loop-l l = Serving l.services l.initial.arcs l.count l.l l.arcs
+invariant-loop-l l = Serving l.services l.initial.arcs l.l l.arcs

@@ -1,8 +1,7 @@
 -- `put_content` writes the five numbers, the arcs' numbers behind them and the marks behind those. Assumes nothing.
 use mathlib.Core.Path.{ap, ◌∙◌}
 use mathlib.Core.List.{◌++◌}
-use native.Mathlib.Omega.{arith}
-use Rattle.lists.proofs.FrontLaws.{Room, room_before, first_fits, put_within, put_room, put_end, put_on_lem}
+use Rattle.lists.proofs.FrontLaws.{Room, room_before, first_fits, put_room, put_on_lem}
 use Rattle.lists.specs.Lists.{Put}
 use Rattle.varint.specs.Answer.{small}
 use Rattle.varint.specs.Varint.{write_numbers}
@@ -32,34 +31,15 @@ put_numbers-at-requires c =
     let e = c.header_numbers-numbers.ensures in
     (ap small e ∙ small_header _ c.requires.draft_faultless, rw e (first_fits (arcs-room (goal.at.put_numbers-at-requires c).Start)))
 
-pub slice_bounds-put_numbers-count : goal.slice_bounds-put_numbers-count
-slice_bounds-put_numbers-count c = put_within (arcs-room (goal.at.slice_bounds-put_numbers-count c).Start) (header-put c)
-
 pub put_numbers-requires : goal.put_numbers-requires
 put_numbers-requires c =
     let s = (goal.at.put_numbers-requires c).Start in
     (small_arcs _ s.requires.draft_faultless, put_room (arcs-room s) (header-put (goal.at.put_numbers-requires c).After-slice_known-2-1))
 
-pub overflow_add-end : goal.overflow_add-end
-overflow_add-end c =
-    let s = (goal.at.overflow_add-end c).Start in
-    omega (arith, put_end (arcs-room s) (header-put (goal.at.overflow_add-end c).After-slice_known-2-1) c.put_numbers.ensures)
-
-pub slice_bounds-put_bytes-count : goal.slice_bounds-put_bytes-count
-slice_bounds-put_bytes-count c =
-    let s = (goal.at.slice_bounds-put_bytes-count c).Start in
-    put_within (marks-room s) (put_on_lem (arcs-room s) (header-put (goal.at.slice_bounds-put_bytes-count c).After-slice_known-2-1) c.put_numbers.ensures)
-
 pub put_bytes-requires : goal.put_bytes-requires
 put_bytes-requires c =
     let s = (goal.at.put_bytes-requires c).Start in
     put_room (marks-room s) (put_on_lem (arcs-room s) (header-put (goal.at.put_bytes-requires c).After-slice_known-2-1) c.put_numbers.ensures)
-
-pub overflow_add-result : goal.overflow_add-result
-overflow_add-result c =
-    let s = (goal.at.overflow_add-result c).Start in
-    let w = put_on_lem (arcs-room s) (header-put (goal.at.overflow_add-result c).After-slice_known-2-1) c.put_numbers.ensures in
-    omega (arith, put_end (marks-room s) w c.put_bytes.ensures)
 
 pub returns : goal.returns
 returns c =

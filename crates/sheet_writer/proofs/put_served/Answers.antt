@@ -1,9 +1,8 @@
 -- `put_served` writes the 1, the content behind it and the service minutes behind that. Assumes nothing.
 use mathlib.Core.List.{List, [], ◌∷◌, ◌++◌}
-use native.Mathlib.Omega.{arith}
 use Prim.Native.Nat.{ℕ}
 use lib.ListN.{set}
-use Rattle.lists.proofs.FrontLaws.{Room, room_before, put_none, byte_within, put_byte, put_within, put_room, put_end, put_on_lem}
+use Rattle.lists.proofs.FrontLaws.{Room, room_before, put_none, byte_within, put_byte, put_within, put_room, put_on_lem}
 use Rattle.lists.specs.Lists.{Put}
 use Rattle.varint.specs.Varint.{write_numbers}
 use Rattle.sheet.proofs.SizeLaws.{served_bytes}
@@ -44,11 +43,6 @@ slice_bounds-put_content-start c =
 pub put_content-end-requires : goal.put_content-end-requires
 put_content-end-requires c = let s = (goal.at.put_content-end-requires c).Start in record { draft_faultless = s.requires.draft_faultless; content_fits = put_room (content-room s) (lead-put s) }
 
-pub overflow_add-end : goal.overflow_add-end
-overflow_add-end c =
-    let s = (goal.at.overflow_add-end c).Start in
-    omega (arith, put_end (content-room s) (lead-put s) c.put_content-end.ensures)
-
 pub slice_bounds-put_numbers-count : goal.slice_bounds-put_numbers-count
 slice_bounds-put_numbers-count c =
     let s = (goal.at.slice_bounds-put_numbers-count c).Start in
@@ -63,12 +57,6 @@ pub put_numbers-requires : goal.put_numbers-requires
 put_numbers-requires c =
     let s = (goal.at.put_numbers-requires c).Start in
     (small_services _ s.requires.draft_faultless, put_room (services-room s) (put_on_lem (content-room s) (lead-put s) c.put_content-end.ensures))
-
-pub overflow_add-result : goal.overflow_add-result
-overflow_add-result c =
-    let s = (goal.at.overflow_add-result c).Start in
-    let w = put_on_lem (content-room s) (lead-put s) c.put_content-end.ensures in
-    omega (arith, put_end (services-room s) w c.put_numbers.ensures)
 
 pub returns : goal.returns
 returns c =

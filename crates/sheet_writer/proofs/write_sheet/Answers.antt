@@ -2,7 +2,7 @@
 use mathlib.Core.Path.{sym}
 use Rattle.std.proofs.Common.{rules}
 use Rattle.varint.proofs.RefusalLaws.{no_refusal}
-use Rattle.sheet_writer.proofs.DraftLaws.{fault_written, short_written, room, sheet_written_lem}
+use Rattle.sheet_writer.proofs.DraftLaws.{fault_written, short_written, sheet_written_lem}
 use Rattle.sheet_writer.proofs.write_sheet.Goals as goal
 
 pub returns-in_err-fault : goal.returns-in_err-fault
@@ -10,16 +10,8 @@ returns-in_err-fault c =
     let e = fault_written _ c.in_err-fault.ensures (no_refusal c.in_err-fault.field-0.0) c.args.sheet.now in
     search rules
 
-pub sheet_size-requires : goal.sheet_size-requires
-sheet_size-requires c = sym c.in_ok-fault.ensures
-
 pub returns-then-not-has_room : goal.returns-then-not-has_room
 returns-then-not-has_room c = short_written _ (sym c.in_ok-fault.ensures) _ c.sheet_size.ensures c.has_room.ensures c.if-not-has_room.true
-
-pub put_sheet-requires : goal.put_sheet-requires
-put_sheet-requires c =
-    let z = sym c.in_ok-fault.ensures in
-    record { draft_faultless = z; page_fits = room _ z c.args.sheet.now c.sheet_size.ensures c.has_room.ensures c.if-not-has_room.false }
 
 pub returns : goal.returns
 returns c =

@@ -1,7 +1,6 @@
 -- `write_slip` writes the first number, the goals behind it and the reasons behind those. Assumes nothing.
 use mathlib.Core.List.{◌++◌}
-use native.Mathlib.Omega.{arith}
-use Rattle.lists.proofs.FrontLaws.{Room, room_before, first_fits, put_within, put_room, put_end, put_on_lem}
+use Rattle.lists.proofs.FrontLaws.{Room, room_before, first_fits, put_room, put_on_lem}
 use Rattle.varint.specs.Varint.{write_number}
 use Rattle.slip_reader.specs.Form.{list_bytes}
 use Rattle.slip_reader.proofs.FormLaws.{slip_parts, small_parts}
@@ -18,23 +17,11 @@ goals-room s = room_before (reasons-room s)
 pub put_number-at-requires : goal.put_number-at-requires
 put_number-at-requires c = ((small_parts _ _ _ c.requires.numbers_small).0, first_fits (goals-room (goal.at.put_number-at-requires c).Start))
 
-pub slice_bounds-put_goals-count : goal.slice_bounds-put_goals-count
-slice_bounds-put_goals-count c = put_within (goals-room (goal.at.slice_bounds-put_goals-count c).Start) c.put_number-at.ensures
+pub put_list-requires : goal.put_list-requires
+put_list-requires c = ((small_parts _ _ _ c.requires.numbers_small).1, put_room (goals-room (goal.at.put_list-requires c).Start) c.put_number-at.ensures)
 
-pub put_goals-requires : goal.put_goals-requires
-put_goals-requires c = ((small_parts _ _ _ c.requires.numbers_small).1, put_room (goals-room (goal.at.put_goals-requires c).Start) c.put_number-at.ensures)
-
-pub overflow_add-end : goal.overflow_add-end
-overflow_add-end c = omega (arith, put_end (goals-room (goal.at.overflow_add-end c).Start) c.put_number-at.ensures c.put_goals.ensures)
-
-pub slice_bounds-put_reasons-count : goal.slice_bounds-put_reasons-count
-slice_bounds-put_reasons-count c = put_within (reasons-room (goal.at.slice_bounds-put_reasons-count c).Start) (put_on_lem (goals-room (goal.at.slice_bounds-put_reasons-count c).Start) c.put_number-at.ensures c.put_goals.ensures)
-
-pub put_reasons-requires : goal.put_reasons-requires
-put_reasons-requires c = ((small_parts _ _ _ c.requires.numbers_small).2, put_room (reasons-room (goal.at.put_reasons-requires c).Start) (put_on_lem (goals-room (goal.at.put_reasons-requires c).Start) c.put_number-at.ensures c.put_goals.ensures))
-
-pub overflow_add-result : goal.overflow_add-result
-overflow_add-result c = omega (arith, put_end (reasons-room (goal.at.overflow_add-result c).Start) (put_on_lem (goals-room (goal.at.overflow_add-result c).Start) c.put_number-at.ensures c.put_goals.ensures) c.put_reasons.ensures)
+pub put_list-requires-2 : goal.put_list-requires-2
+put_list-requires-2 c = ((small_parts _ _ _ c.requires.numbers_small).2, put_room (reasons-room (goal.at.put_list-requires-2 c).Start) (put_on_lem (goals-room (goal.at.put_list-requires-2 c).Start) c.put_number-at.ensures c.put_list.ensures))
 
 pub returns : goal.returns
-returns c = rw (slip_parts c.args.first c.args.goals.now c.args.reasons.now) (put_on_lem (reasons-room (goal.at.returns c).Start) (put_on_lem (goals-room (goal.at.returns c).Start) c.put_number-at.ensures c.put_goals.ensures) c.put_reasons.ensures)
+returns c = rw (slip_parts c.args.first c.args.goals.now c.args.reasons.now) (put_on_lem (reasons-room (goal.at.returns c).Start) (put_on_lem (goals-room (goal.at.returns c).Start) c.put_number-at.ensures c.put_list.ensures) c.put_list-2.ensures)

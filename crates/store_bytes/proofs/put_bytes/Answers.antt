@@ -5,11 +5,13 @@ use Rattle.store.specs.Held.{shelf_of}
 use Rattle.store_bytes.proofs.BytesLaws.{put_small, put_short, put_in_bytes}
 use Rattle.store_bytes.proofs.put_bytes.Goals as goal
 
-pub returns-then-work-lt-WORK_BYTES : goal.returns-then-work-lt-WORK_BYTES
-returns-then-work-lt-WORK_BYTES c = (put_short c.args.store c.args.sheet.now c.args.work.now c.args.slip.now c.if-work-lt-WORK_BYTES.true, λ _. refl)
+pub returns-in-Err : goal.returns-in-Err
+returns-in-Err c =
+    let e = c.in-Err.ensures.short in
+    (rw (c.one_number-in-Err.ensures, c.from.ensures, e.1) (put_short c.args.store c.args.sheet.now c.args.work.now c.args.slip.now e.0), λ _. refl)
 
 pub one_number-requires : goal.one_number-requires
 one_number-requires c = (omega (arith, c.number-number.ensures, put_small (shelf_of c.args.store) c.args.sheet.now c.args.slip.now c.put_sheet-answer.ensures.answer), omega arith)
 
-pub returns : goal.returns
-returns c = let a = c.put_sheet-answer.ensures in (put_in_bytes c.args.store c.args.sheet.now c.args.work.now c.args.slip.now c.if-work-lt-WORK_BYTES.false a c.number-number.ensures c.one_number.ensures c.leave_bytes.ensures, a.same)
+pub returns-in-Ok : goal.returns-in-Ok
+returns-in-Ok c = let a = c.put_sheet-answer.ensures in (put_in_bytes c.args.store c.args.sheet.now c.args.work.now c.args.slip.now (c.in-Ok.ensures.long refl) a c.number-number.ensures c.one_number.ensures c.leave.ensures, a.same)

@@ -4,4 +4,4 @@ use Rattle.text_answer.proofs.ListLaws.{newly_among}
 use Rattle.text_answer.proofs.newly_forbidden.Given as goal
 
 abbrev pub invariant-loop-i : goal.invariant-loop-i
-invariant-loop-i l = (length l.list.items ≤ l.i) × (l.list.items ≡ newly_among l.marks l.slip l.i)
+invariant-loop-i g l = (length l.list.items ≤ l.i) × (l.list.items ≡ newly_among l.marks l.slip l.i)

@@ -9,18 +9,18 @@ use Rattle.text_cost.proofs.listed.Goals as goal
 
 pub returns-in-Err : goal.returns-in-Err
 returns-in-Err c =
-    let W = c.requires.0 in
-    absurd (never_unformed (sheet_of c.args.header c.args.arcs.now c.args.marks.now) W.good c.args.item (omega (arith, items_are W, c.requires.1)) c.args.slip.now c.requires.2 c.in-Err.ensures.refused.1)
+    let W = c.args.sheet.now.whole in
+    absurd (never_unformed (sheet_of c.args.sheet.now.header c.args.sheet.now.arcs.now c.args.sheet.now.marks.now) W.good c.args.item (omega (arith, items_are W, c.requires.0)) c.args.slip.now c.requires.1 c.in-Err.ensures.refused.1)
 
 pub read-closures-requires : goal.read-closures-requires
-read-closures-requires c = (listed (sheet_of c.args.header c.args.arcs.now c.args.marks.now) c.requires.0.good c.args.item (omega (arith, items_are c.requires.0, c.requires.1)) c.args.slip.now c.requires.2 c.in-Ok.form c.in-Ok.ensures.got).many
+read-closures-requires c = (listed (sheet_of c.args.sheet.now.header c.args.sheet.now.arcs.now c.args.sheet.now.marks.now) c.args.sheet.now.whole.good c.args.item (omega (arith, items_are c.args.sheet.now.whole, c.requires.0)) c.args.slip.now c.requires.1 c.in-Ok.form c.in-Ok.ensures.got).many
 
 pub weigh-requires : goal.weigh-requires
 weigh-requires c =
-    let W = c.requires.0 in
-    let S = sheet_of c.args.header c.args.arcs.now c.args.marks.now in
-    let T = (listed S W.good c.args.item (omega (arith, items_are W, c.requires.1)) c.args.slip.now c.requires.2 c.in-Ok.form c.in-Ok.ensures.got) in
-    rw (c.read-closures.ensures ∙ T.is) (W, c.requires.1, listed_markable S W.good (c.args.item ∷ []), omega (arith, T.count, T.many))
+    let W = c.args.sheet.now.whole in
+    let S = sheet_of c.args.sheet.now.header c.args.sheet.now.arcs.now c.args.sheet.now.marks.now in
+    let T = (listed S W.good c.args.item (omega (arith, items_are W, c.requires.0)) c.args.slip.now c.requires.1 c.in-Ok.form c.in-Ok.ensures.got) in
+    rw (c.read-closures.ensures ∙ T.is) (omega arith, (c.requires.0, listed_markable S W.good (c.args.item ∷ []), omega (arith, T.count, T.many)))
 
 pub returns-in-Ok : goal.returns-in-Ok
-returns-in-Ok c = let T = (listed (sheet_of c.args.header c.args.arcs.now c.args.marks.now) c.requires.0.good c.args.item (omega (arith, items_are c.requires.0, c.requires.1)) c.args.slip.now c.requires.2 c.in-Ok.form c.in-Ok.ensures.got) in rw (c.read-closures.ensures ∙ T.is) at c.weigh.ensures
+returns-in-Ok c = let T = (listed (sheet_of c.args.sheet.now.header c.args.sheet.now.arcs.now c.args.sheet.now.marks.now) c.args.sheet.now.whole.good c.args.item (omega (arith, items_are c.args.sheet.now.whole, c.requires.0)) c.args.slip.now c.requires.1 c.in-Ok.form c.in-Ok.ensures.got) in rw (c.read-closures.ensures ∙ T.is) at c.weigh.ensures

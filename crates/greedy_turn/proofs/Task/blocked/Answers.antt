@@ -12,8 +12,13 @@ open_item-kept-requires c =
     let S = c.requires.0 in
     let I = c.requires.1 in
     let marks = c.args.marks.now in record {
-      item_and_cap = (I.below, S.small);
-      shaped_with_starts = (linked_shaped (set_proper S marks I.marked) I.links, set_fit S marks c.args.work.now I.marked (omega (arith, I.long)), omega (arith, S.counted, S.eight), I.long);
+      item_of_net = I.below;
+      shaped_with_starts = (
+        linked_shaped (set_proper S marks I.marked) I.links,
+        set_fit S marks c.args.work.now I.marked (omega (arith, I.long)),
+        omega (arith, S.counted, S.eight),
+        I.long,
+      );
     }
 
 pub may_fit-requires : goal.may_fit-requires
@@ -22,7 +27,10 @@ may_fit-requires c =
     let S = c.requires.0 in
     let I = c.requires.1 in record {
       work_and_task_fit = (t.auto.work ∙ I.long, omega (arith, S.counted, S.eight), omega (arith, S.target, S.few));
-      goals_entered = (S.eight, λ i h. omega (arith, I.entered i h, t.ensures.saves.beside (576 + i) (omega (arith, S.counted, S.eight)) (omega (arith, S.eight))));
+      goals_entered = (
+        S.eight,
+        λ i h. omega (arith, I.entered i h, t.ensures.saves.beside (576 + i) (omega (arith, S.counted, S.eight)) (omega (arith, S.eight))),
+      );
     }
 
 pub stays_open-requires : goal.stays_open-requires
@@ -35,7 +43,7 @@ returns c old e W B =
     let S = c.requires.0 in
     let I = c.requires.1 in
     let j = c.stays_open in
-    judged_asked S (opening S old e I.marked I.below I.links.arcs) W c.open_item-kept.ensures (sym S.counted) j.new.work j.result
+    judged_asked S (opening S old e I.marked I.below I.links.packed) W c.open_item-kept.ensures (sym S.counted) j.new.work j.result
     refl j.ensures.tells_whether_blocked j.ensures.goals_noted_if_open j.ensures.rows_back_if_not
 
 pub returns-then-not-may_fit : goal.returns-then-not-may_fit
@@ -43,5 +51,5 @@ returns-then-not-may_fit c old e W B =
     let S = c.requires.0 in
     let I = c.requires.1 in
     let m = c.may_fit.ensures in
-    judged_unmoved S (opening S old e I.marked I.below I.links.arcs) W c.open_item-kept.ensures
+    judged_unmoved S (opening S old e I.marked I.below I.links.packed) W c.open_item-kept.ensures
     refl B (m.not_a_goal_if_false c.if-not-may_fit.true) (m.unmoved_if_false c.if-not-may_fit.true)

@@ -3,23 +3,31 @@
 use mathlib.Core.Path.{◌≡◌, refl, ◌∙◌}
 use mathlib.Core.Bool.{true}
 use native.Mathlib.Omega.{arith}
-use borrow.Author.Tests.{eq-eqb, ne_eqb}
 use lib.ListN.{length-set}
 use Rattle.walks.specs.Graph.{closed_in}
 use Rattle.row_links.proofs.LinkLaws.{linked_shaped, item_linked}
-use Rattle.greedy_turn.proofs.TurnLaws.{set_proper, set_goals, in_turn, closed_again, turn_passed, turn_opened, turn_listed, state_opened, state_listed}
+use Rattle.greedy_turn.proofs.TurnLaws.{mark_read, set_proper, set_goals, in_turn, closed_again}
+use Rattle.greedy_turn.proofs.TurnLaws.{turn_passed, turn_opened, turn_listed, state_opened, state_listed}
 use Rattle.greedy_turn.proofs.Task.take_turn.Goals as goal
 
-pub returns-then-marks-item-ne-FORBIDDEN : goal.returns-then-marks-item-ne-FORBIDDEN
-returns-then-marks-item-ne-FORBIDDEN c = record { item_turned = turn_passed (ne_eqb _ _ c.if-marks-item-ne-FORBIDDEN.true); state_after = c.requires.state_before }
+pub returns-then-not-is_forbidden : goal.returns-then-not-is_forbidden
+returns-then-not-is_forbidden c =
+    let A = c.requires.state_before in
+    record {
+      item_turned = turn_passed (
+          mark_read c.args.marks.now c.args.item _ c.index-marks-item.is c.is_forbidden.ensures (omega (arith, A.marked, c.requires.setting_holds.1))
+          ∙ c.if-not-is_forbidden.true
+          );
+      state_after = A;
+    }
 
 pub invariant_of-opened : goal.invariant_of-opened
 invariant_of-opened c =
     let S = c.requires.setting_holds.0 in
-    (set_proper S _ (simp length-set c.requires.state_before.marked), S.short)
+    set_proper S _ (simp length-set c.requires.state_before.marked)
 
 pub open-requires : goal.open-requires
-open-requires c = c.requires.setting_holds.1
+open-requires c = record { few_arcs_and_item = (c.requires.setting_holds.0.short, c.requires.setting_holds.1) }
 
 pub blocked-requires : goal.blocked-requires
 blocked-requires c =
@@ -35,7 +43,9 @@ returns-then-blocked c =
     let A = c.requires.state_before in
     let b = c.blocked in
     let o = item_linked (set_proper S _ (simp length-set A.marked)) S.short c.requires.setting_holds.1 A.links.long c.open.ensures in
-    let p : closed_in c.args.marks.now c.args.item ≡ true = eq-eqb _ _ c.if-marks-item-ne-FORBIDDEN.false in
+    let p : closed_in c.args.marks.now c.args.item ≡ true =
+    mark_read c.args.marks.now c.args.item _ c.index-marks-item.is c.is_forbidden.ensures (omega (arith, A.marked, c.requires.setting_holds.1))
+    ∙ c.if-not-is_forbidden.false in
     let J = rw c.if-blocked.true at (b.ensures c.args.marks.now refl A.ready A.blocked) in
     record {
       item_turned = turn_opened p J;
@@ -48,7 +58,7 @@ bounds-marks-item-3 c = simp length-set (omega (arith, c.requires.state_before.m
 pub invariant_of-closed : goal.invariant_of-closed
 invariant_of-closed c =
     let S = c.requires.setting_holds.0 in
-    (set_proper S _ (simp length-set c.requires.state_before.marked), S.short)
+    set_proper S _ (simp length-set c.requires.state_before.marked)
 
 pub note_goals-requires : goal.note_goals-requires
 note_goals-requires c =
@@ -59,10 +69,13 @@ pub link_closed-requires : goal.link_closed-requires
 link_closed-requires c =
     let S = c.requires.setting_holds.0 in
     let A = c.requires.state_before in
+    let p : closed_in c.args.marks.now c.args.item ≡ true =
+    mark_read c.args.marks.now c.args.item _ c.index-marks-item.is c.is_forbidden.ensures (omega (arith, A.marked, c.requires.setting_holds.1))
+    ∙ c.if-not-is_forbidden.false in
     let q = set_proper S _ (simp length-set A.marked) in
-    let o = item_linked q S.short c.requires.setting_holds.1 A.links.long c.open.ensures in
-    let p : closed_in c.args.marks.now c.args.item ≡ true = eq-eqb _ _ c.if-marks-item-ne-FORBIDDEN.false in record {
-      shaped = (linked_shaped q (o.opened c.args.marks.now refl A.links), omega (arith, A.links.room));
+    let o = item_linked q S.short c.requires.setting_holds.1 A.links.long c.open.ensures in record {
+      few_arcs = S.short;
+      shaped = (linked_shaped q (o.opened c.args.marks.now refl A.links), A.links.room);
       linked_but_for_last = λ a b. rw (closed_again c.args.marks.now c.args.item p) (o.again c.args.marks.now refl A.links a b);
     }
 
@@ -72,8 +85,11 @@ returns c =
     let A = c.requires.state_before in
     let b = c.blocked in
     let g = c.note_goals in
-    let p : closed_in c.args.marks.now c.args.item ≡ true = eq-eqb _ _ c.if-marks-item-ne-FORBIDDEN.false in
+    let p : closed_in c.args.marks.now c.args.item ≡ true =
+    mark_read c.args.marks.now c.args.item _ c.index-marks-item.is c.is_forbidden.ensures (omega (arith, A.marked, c.requires.setting_holds.1))
+    ∙ c.if-not-is_forbidden.false in
     let J = rw c.if-blocked.false at (b.ensures c.args.marks.now refl A.ready A.blocked) in record {
       item_turned = turn_listed p J;
-      state_after = state_listed S A c.args.item p (g.auto.work ∙ b.auto.work) c.link_closed.ensures J g.ensures.noted g.ensures.only_notes_written.0;
+      state_after = state_listed S A c.args.item p (g.auto.work ∙ b.auto.work) c.link_closed.ensures J (rw c.length.ensures.0 at g.ensures.noted)
+          g.ensures.only_notes_written.0;
     }

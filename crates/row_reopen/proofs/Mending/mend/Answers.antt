@@ -21,8 +21,8 @@ mend_row-requires c =
     let s = c in
     let i = s.args.row in
     let mid = c.keep_row.new.work in record {
-      arcs_chained = (rw c.arcs.ensures s.requires.shaped.0.joins, rw (c.arcs.ensures, c.chains.ensures) s.requires.shaped.0.chained);
-      row_and_start_fit = (mid_len (i * 64) (i * 64 + 64) mid (omega (arith, c.keep_row.auto.work)) ∙ omega arith, s.requires.start_and_change_fit.0, s.requires.start_and_change_fit.1, s.requires.start_and_change_fit.2);
+      arcs_chained = (rw c.arcs.ensures s.requires.shaped.0.joins, rw c.arcs.ensures s.requires.shaped.0.chained);
+      row_and_start_fit = (mid_len (i * 64) (i * 64 + 64) mid (omega (arith, c.keep_row.auto.work)) ∙ omega arith, s.requires.start_and_change_fit.0, s.requires.start_and_change_fit.1);
     }
 
 pub returns : goal.returns

@@ -1,24 +1,11 @@
 -- What the invariant does not show of `mend_all` by itself.
-use mathlib.Core.Path.{◌≡◌, refl, ◌∙◌}
+use mathlib.Core.Path.{◌≡◌, ◌∙◌}
 use Prim.Native.Nat.{◌<◌}
 use lib.ListN.{length}
 use native.Mathlib.Omega.{arith}
 use Rattle.row_reopen.specs.Openings.{change_is}
-use Rattle.row_reopen.proofs.SavesLaws.{saves_begun, saves_more, spared_more, row_begun, away_before, rows_before}
+use Rattle.row_reopen.proofs.SavesLaws.{saves_more, spared_more, row_begun, away_before, rows_before}
 use Rattle.row_reopen.proofs.Mending.mend_all.Goals as goal
-
-pub loop-row-init : goal.loop-row-init
-loop-row-init c = (refl, saves_begun _ _ _, λ N A a b k j h. absurd (omega arith), λ j h. absurd (omega arith), λ j h. absurd (omega arith))
-
-pub mend-kept-requires : goal.mend-kept-requires
-mend-kept-requires c =
-    let s = c.requires in
-    let l = c.loop-row in
-    let h = c.loop-row-test.true in
-    record {
-      shaped = (s.shaped_with_starts.0, omega (arith, s.shaped_with_starts.2, h), l.invariant.0 ∙ s.shaped_with_starts.3);
-      start_and_change_fit = (s.shaped_with_starts.1.places l.row h, s.shaped_with_starts.1.marked l.row h, s.cap_and_change_fit.0, s.cap_and_change_fit.1, s.cap_and_change_fit.2);
-    }
 
 pub loop-row-preserved : goal.loop-row-preserved
 loop-row-preserved c =

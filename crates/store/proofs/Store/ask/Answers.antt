@@ -10,7 +10,7 @@ returns-in_err-taken c =
     rw e (ask_refused c.args.self.now c.args.sheet.now _ c.in_err-taken.ensures.refused)
 
 pub returns-then-not-fits_base : goal.returns-then-not-fits_base
-returns-then-not-fits_base c = ask_other c.args.self.now c.args.sheet.now c.in_ok-taken.ensures.took c.fits_base.ensures c.if-not-fits_base.true
+returns-then-not-fits_base c = ask_other c.args.self.now c.args.sheet.now c.in_ok-taken.ensures.loaded c.fits_base.ensures c.if-not-fits_base.true
 
 pub returns : goal.returns
-returns c = ask_found c.args.self.now c.args.sheet.now c.in_ok-taken.ensures.took c.fits_base.ensures c.if-not-fits_base.false (c.copied.ensures ∙ c.first_applying.ensures)
+returns c = ask_found c.args.self.now c.args.sheet.now c.in_ok-taken.ensures.loaded c.fits_base.ensures c.if-not-fits_base.false (c.copied.ensures ∙ c.first_applying.ensures)

@@ -6,5 +6,5 @@ use Rattle.store.proofs.Store.set_base.Goals as goal
 pub returns : goal.returns
 returns c =
     let t = c.args.taken.now in
-    based_as c.args.self.now _ t.header t.arcs.now t.services.now c.requires.lists_of_header.0 c.requires.lists_of_header.1 refl refl refl refl
-    (rw c.copy_from_slice.ensures.after refl) (rw c.copy_from_slice-2.ensures.after refl) refl refl
+    based_as c.args.self.now _ t.sheet.header t.sheet.arcs.now t.services.now t.sheet.whole.sized.0 t.one_each refl refl refl refl
+    c.put_legs.ensures (rw c.copy_from_slice.ensures.after refl) refl refl

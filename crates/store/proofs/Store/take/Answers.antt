@@ -11,7 +11,7 @@ returns-in_err-taken c =
 pub returns-in_err-slot : goal.returns-in_err-slot
 returns-in_err-slot c =
     let e = err_given c.from_residual-in_err-slot.result c.in_err-slot.field-0.0 c.from_residual-in_err-slot.ensures.1 in
-    rw e (refuses _ _ _ (slip_refused c.args.self.now c.args.sheet.now c.args.slip.now c.in_ok-taken.ensures.took c.judge.ensures _ c.in_err-slot.was))
+    rw e (refuses _ _ _ (slip_refused c.args.self.now c.args.sheet.now c.args.slip.now c.in_ok-taken.ensures.loaded c.judge.ensures _ c.in_err-slot.was))
 
 pub returns : goal.returns
-returns c = as_drawn (slip_goes c.args.self.now c.args.sheet.now c.args.slip.now c.in_ok-taken.ensures.took c.judge.ensures _ c.in_ok-slot.was) c.enter.ensures
+returns c = as_drawn (slip_goes c.args.self.now c.args.sheet.now c.args.slip.now c.in_ok-taken.ensures.loaded c.judge.ensures _ c.in_ok-slot.was) c.enter.ensures

@@ -6,7 +6,7 @@ use borrow.Author.Tests.{lt-leb, le-leb}
 use Rattle.lists.specs.Lists.{every}
 use Rattle.store_slot.specs.Slot.{goals_in, reasons_in, shown}
 use Rattle.store_slot.specs.Lists.{applies_by}
-use Rattle.store_slot.proofs.SlotLaws.{last_fails, first_fails, second_tells, every_all}
+use Rattle.store_slot.proofs.SlotLaws.{last_fails, first_fails, second_tells}
 use Rattle.store_slot.proofs.Slot.applies.Goals as goal
 
 pub returns-then-self-limit : goal.returns-then-self-limit
@@ -18,9 +18,13 @@ returns-then-self-limit c =
 pub returns-then-all_marked : goal.returns-then-all_marked
 unfolding applies_by shown
 returns-then-all_marked c =
-    c.all_marked-then-all_marked.ensures ∙ every_all _ _ ∙ ap (every _) c.goals.ensures
-    ∙ second_tells (sym (c.all_marked.ensures ∙ every_all _ _ ∙ ap (every _) c.reasons.ensures) ∙ c.if-all_marked.true) (le-leb _ _ c.if-self-limit.false)
+    let m = c.args.marks.now in
+    c.all_marked-then-all_marked.ensures ∙ ap (every (λ x. eqb (get_or m x 0) 1)) c.goals.ensures
+    ∙ second_tells (sym (c.all_marked.ensures ∙ ap (every (λ x. eqb (get_or m x 0) 2)) c.reasons.ensures.shown) ∙ c.if-all_marked.true) (le-leb _ _ c.if-self-limit.false)
 
 pub returns-else-all_marked : goal.returns-else-all_marked
 unfolding applies_by shown
-returns-else-all_marked c = c.if-all_marked.false ∙ first_fails _ (sym (c.all_marked.ensures ∙ every_all _ _ ∙ ap (every _) c.reasons.ensures) ∙ c.if-all_marked.false)
+returns-else-all_marked c =
+    let m = c.args.marks.now in
+    c.if-all_marked.false
+    ∙ first_fails _ (sym (c.all_marked.ensures ∙ ap (every (λ x. eqb (get_or m x 0) 2)) c.reasons.ensures.shown) ∙ c.if-all_marked.false)
