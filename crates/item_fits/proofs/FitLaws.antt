@@ -1,7 +1,6 @@
 -- What the rows say of an item, and a goal's least length of all goals. Assumes nothing.
 use Prim.Native.Nat.{ℕ, ◌+◌, ◌<◌}
-use mathlib.Core.Path.{◌≡◌, refl, sym, ap, ◌∙◌}
-use mathlib.Core.Bool.{Bool, true, false}
+use mathlib.Core.Path.{◌≡◌, ap, ◌∙◌}
 use mathlib.Core.List.{List, [], ◌∷◌}
 use native.Mathlib.Omega.{arith}
 use lib.ListN.{get_or}
@@ -11,7 +10,7 @@ use Rattle.goals.proofs.ToldLaws.{told_left, told_right}
 use Rattle.goals.specs.Told.{as_least}
 use Rattle.rows.proofs.ArcLaws.{item_at}
 use Rattle.rows.proofs.HeldLaws.{held_within}
-use Rattle.rows.specs.Held.{held, kept, at_most}
+use Rattle.rows.specs.Held.{held, at_most}
 use Rattle.rows.specs.Net.{net_of}
 use Rattle.sheet.specs.Sheet.{is_forbidden, sheet_of}
 use Rattle.sheet_required.specs.Whole.{Whole}
@@ -20,32 +19,10 @@ use Rattle.walks.proofs.Through.{through_one}
 use Rattle.walks.specs.declared.arc.Arc.{Arc}
 use Rattle.walks.specs.Flat.{graph_of}
 use Rattle.walks.specs.Goals.{entry_of, exit_of, own_of}
-use Rattle.walks.specs.Graph.{Graph, closed_in, least, fits}
-use Rattle.walks.specs.Lengths.{Least, none, some, plus, within}
-use Rattle.walks.proofs.GoalLaws.{impossible}
-use Rattle.std.specs.Prelude.{is_some}
+use Rattle.walks.specs.Graph.{closed_in, least, fits}
+use Rattle.walks.specs.Lengths.{Least, none, plus}
 use Rattle.std.specs.declared.option.Option.{Option}
-use Rattle.std.specs.declared.option.Option.TheVariants.{None, Some}
 use Rattle.item_fits.specs.Rows.{Rows}
-
--- a length that is told is one within the limit
-told_within : (k : ℕ) (r : Least) (o : Option ℕ) → as_least o ≡ at_most k r → is_some o ≡ within r k
-unfolding at_most kept within
-told_within k none None e = refl
-told_within k none (Some a) e = impossible (sym e)
-told_within k (some a) o e = go (leb a k) o e
-  where
-    go : (t : Bool) (o : Option ℕ) → as_least o ≡ kept t a → is_some o ≡ t
-    go true None e' = impossible e'
-    go true (Some b) e' = refl
-    go false None e' = refl
-    go false (Some b) e' = impossible (sym e')
-
--- all goals together
-pub goals_fit : (G : Graph) (closed : ℕ → Bool) (goals : List ℕ) (s t k : ℕ) (o : Option ℕ)
-    → as_least o ≡ at_most k (least G closed goals s t) → is_some o ≡ fits G s t k closed goals
-unfolding fits
-goals_fit G closed goals s t k o e = told_within k (least G closed goals s t) o e
 
 module _ {h : Header} {arcs : List Arc} {marks : List ℕ} (W : Whole h arcs marks) where
   abbrev there : ℕ → Least

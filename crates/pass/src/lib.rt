@@ -34,6 +34,7 @@ fn any_forbidden(marks: &[Mark]) -> bool
 }
 
 // Has the rows for the goals ready in the scratch, where a list of reasons needs them. Where no walk meets the goals all at once they are there already.
+// `first` is a number, as it is written: a claim would ask more of callers.
 pub fn ready_rows(query: &Query, net: &Net, first: u32, goals: &[u32], scratch: &mut [u32])
     requires few_arcs { length net.now.arcs ≤ 512 }
     requires goals_and_scratch_fit { GoalsFit net.now goals.now × (length scratch.old ≡ scratch_numbers) × (query.now.from < net.now.nodes) }

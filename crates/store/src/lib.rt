@@ -274,6 +274,7 @@ impl Store {
             ≡ put (shelf_of self) sheet.now work.old slip.now)
             × (shelf_of result.store ≡ shelf_of self → result.store ≡ self) }
     {
+        // not by `lent_work`: of a store that a call changes, a proof learns nothing
         match work::enough_work(work) {
             Ok(()) => {
                 let answer = self.put_sheet(sheet, slip);

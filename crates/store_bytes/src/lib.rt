@@ -21,6 +21,7 @@ pub fn put_bytes(store: Store, sheet: &[u8], work: &mut [u8], slip: &[u8]) -> (u
         ≡ put_bytes (shelf_of store) sheet.now work.old slip.now)
         × (shelf_of result.1 ≡ shelf_of store → result.1 ≡ store) }
 {
+    // not by `lent_work`: of a store that a call changes, a proof learns nothing
     match work::enough_work(work) {
         Ok(()) => {
             let answer = store.put_sheet(sheet, slip);
@@ -45,6 +46,7 @@ fn ask_into(store: &Store, sheet: &[u8], slip: &mut [u8]) -> Result<usize, Refus
     ensures told { record { number = 65536 * number_in result + length_in result; slip = slip.new } ≡ ask_bytes (shelf_of store.now) sheet.now slip.old }
     ensures small { (number_in result ≤ 27) × (length_in result ≤ 65535) }
 {
+    // not by `lent`: no work is lent
     work::enough_slip(slip)?;
     let found = store.ask(sheet)?;
     match found {

@@ -2,9 +2,9 @@
 use mathlib.Core.Path.{◌∙◌}
 use Rattle.sheet.specs.Sheet.{is_forbidden}
 use Rattle.pass_rules.specs.Verdict.{fits_sheet}
-use Rattle.item_fits.proofs.FitLaws.{goals_fit}
+use Rattle.goals.proofs.ToldLaws.{told_fits}
 use Rattle.item_fits.proofs.EndRows.fits_item.Goals as goal
 
 pub returns : goal.returns
 unfolding fits_sheet is_forbidden
-returns c = c.is_some.ensures ∙ goals_fit _ _ _ _ _ _ _ c.least_through.ensures
+returns c = c.is_some.ensures ∙ told_fits _ _ _ _ _ _ _ c.least_through.ensures
