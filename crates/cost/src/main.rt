@@ -7,12 +7,12 @@ use program_input::INPUT_BYTES;
 
 fn main(rt: HostRuntime) {
     let mut input = [0u8; INPUT_BYTES];
-    let read = match program_input::read_input(&mut rt.stdin(), &mut input) {
+    let read = match program_input::read_program_input(&mut rt.stdin(), &mut input) {
         Ok(read) => read,
         Err(error) => return program_input::say_failed(&rt, "cost: standard input", error),
     };
-    let told = text_cost::report_cost(&input[..read]);
-    if let Err(error) = print!(rt; "{told}") {
+    let text = text_cost::report_cost(&input[..read]);
+    if let Err(error) = rt.write_all(text.as_slice()) {
         program_input::say_failed(&rt, "cost: standard output", error);
     }
 }

@@ -1,12 +1,12 @@
 // What closures cost, for a sheet that was read and a list of closures, and its lines.
 #![tactic(auto)]
 
-ghost use Rattle.std.specs.Prelude.{◌≡◌, [], ◌∷◌, ◌+◌, ◌≤◌, ◌<◌, length};
+ghost use Rattle.std.specs.Prelude.{◌≡◌, [], ◌∷◌, ◌++◌, ◌+◌, ◌≤◌, ◌<◌, length};
 ghost use Rattle.walks.specs.Flat.{graph_of};
 ghost use Rattle.walks.specs.Graph.{closed_in, least};
 ghost use Rattle.sheet.specs.Sheet.{sheet_of};
 ghost use Rattle.closed_marks.specs.Closing.{Markable};
-ghost use Rattle.cost_rules.specs.Cost.{cost_lines, opened_line};
+ghost use Rattle.cost_rules.specs.Cost.{cost_lines, opened_line, length_line, slack_line};
 ghost use Rattle.lengths.specs.Told.{as_least};
 ghost use Rattle.cost_lines.specs.Ask.{line_of};
 ghost use Rattle.cost_lines.specs.Told.{costs_text};
@@ -16,27 +16,27 @@ use lengths::Query;
 use rows::cap::Cap;
 use rows::net::Net;
 use sheet_required::whole::Sheet;
-use std::fmt;
-use text_lines::{DifferenceLine, NumberLine};
+use text_lines::{DifferenceLine, Line, NumberLine, Text};
 use walks::mark::Mark;
 
 // A length alone on its line, or `none`.
 #[derive(Clone, Copy, Debug, PartialEq, Eq)]
 pub struct LengthLine(pub Option<u32>);
 
-impl fmt::Display for LengthLine {
-    ghost use Rattle.std.specs.Prelude.{Some};
-    ghost use Rattle.cost_rules.specs.Cost.{length_line};
-
-    ghost output = { λ l. Some (length_line (as_least l.0)) };
-
-    fn fmt<W: fmt::Write>(&self, f: &mut fmt::Formatter<W>) -> fmt::Result {
+impl LengthLine {
+    pub fn put(&self, text: &mut Text)
+        requires { length text.old.items + length (length_line (as_least self.now.0)) ≤ 8192 }
+        ensures { text.new.items ≡ text.old.items ++ length_line (as_least self.now.0) }
+    {
         match self.0 {
-            None => f.write_str("none\n"),
-            Some(length) => {
-                let line = NumberLine(length);
-                write!(f, "{line}")
+            None => {
+                let none = Line {
+                    word: b"none",
+                    numbers: &[],
+                };
+                none.put(text)
             }
+            Some(length) => NumberLine(length).put(text),
         }
     }
 }
@@ -48,24 +48,19 @@ pub struct SlackLine {
     pub length: Option<u32>,
 }
 
-impl fmt::Display for SlackLine {
-    ghost use Rattle.std.specs.Prelude.{Some};
-    ghost use Rattle.cost_rules.specs.Cost.{slack_line};
-
-    ghost output = { λ l. Some (slack_line l.limit (as_least l.length)) };
-
-    fn fmt<W: fmt::Write>(&self, f: &mut fmt::Formatter<W>) -> fmt::Result {
+impl SlackLine {
+    pub fn put(&self, text: &mut Text)
+        requires { length text.old.items + length (slack_line self.now.limit (as_least self.now.length)) ≤ 8192 }
+        ensures { text.new.items ≡ text.old.items ++ slack_line self.now.limit (as_least self.now.length) }
+    {
         match self.length {
-            None => {
-                let line = LengthLine(None);
-                write!(f, "{line}")
-            }
+            None => LengthLine(None).put(text),
             Some(length) => {
                 let line = DifferenceLine {
                     whole: self.limit,
                     part: length,
                 };
-                write!(f, "{line}")
+                line.put(text)
             }
         }
     }
@@ -78,20 +73,15 @@ pub struct Costs<const N: usize> {
     pub opened: ArrayVec<Option<u32>, N>,
 }
 
-impl<const N: usize> fmt::Display for Costs<N> {
-    ghost use Rattle.std.specs.Prelude.{Some};
-    ghost use Rattle.cost_lines.specs.Told.{costs_text};
-
-    ghost output = { λ c. Some (costs_text c) };
-
-    fn fmt<W: fmt::Write>(&self, f: &mut fmt::Formatter<W>) -> fmt::Result {
-        let slack = self.slack;
-        write!(f, "{slack}")?;
+impl<const N: usize> Costs<N> {
+    pub fn put(&self, text: &mut Text)
+        requires { length text.old.items + length (costs_text self.now) ≤ 8192 }
+        ensures { text.new.items ≡ text.old.items ++ costs_text self.now }
+    {
+        self.slack.put(text);
         for length in self.opened.as_slice() {
-            let line = LengthLine(*length);
-            write!(f, "{line}")?;
+            LengthLine(*length).put(text);
         }
-        Ok(())
     }
 }
 

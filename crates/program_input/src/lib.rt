@@ -1,7 +1,7 @@
 // The programs' standard input, and what they say where it or standard output fails.
 #![tactic(auto)]
 
-ghost use Rattle.std.specs.Prelude.{◌≤◌, length, IfOk, OnErr};
+ghost use Rattle.std.specs.Prelude.{◌≡◌, ◌≤◌, length, IfOk, OnErr};
 ghost use Rattle.program_input.specs.Reads.{Filled, Begun};
 ghost use Rattle.program_input.specs.Words.{IsWords};
 
@@ -29,6 +29,16 @@ pub fn read_input<R: Read>(reader: &mut R, input: &mut [u8]) -> io::Result<usize
         done += more;
     }
     Ok(done)
+}
+
+// Reads the input of a program, as `read_input` does: a program lends 8,192 bytes, so that no more are read.
+pub fn read_program_input<R: Read>(reader: &mut R, input: &mut [u8]) -> io::Result<usize>
+    requires { length input.old ≡ 8192 }
+    ensures count_inside { IfOk result (λ n. n ≤ 8192) }
+    ensures bytes_read_in_front { IfOk result (λ n. Filled (R.remaining reader.old) (R.remaining reader.new) input.new n) }
+    ensures no_more_taken { OnErr result (Begun (R.remaining reader.old) (R.remaining reader.new) input.new) }
+{
+    read_input(reader, input)
 }
 
 // More bytes than the library prints of any error of the system.

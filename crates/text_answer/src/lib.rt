@@ -1,12 +1,13 @@
 // What the pass answers to a sheet, as the program prints it: the lines of a round that stands, of one that is refused, and of a refusal of the sheet.
 #![tactic(auto)]
 
-ghost use Rattle.std.specs.Prelude.{◌≡◌, ◌≤◌, ◌<◌, length};
-ghost use Rattle.text_answer.specs.Text.{newly_forbidden, refused_text};
+ghost use Rattle.std.specs.Prelude.{◌≡◌, ◌≤◌, ◌<◌, ◌+◌, ◌++◌, length};
+ghost use Rattle.slip_reader.specs.Form.{slip_from};
+ghost use Rattle.text_answer.specs.Report.{report_text};
+ghost use Rattle.text_answer.specs.Text.{newly_forbidden, refused_text, stands_text, blame_text};
 
 use arrayvec::ArrayVec;
-use std::fmt;
-use text_lines::Line;
+use text_lines::{Line, Text};
 use varint::Refusal;
 use walks::mark::Mark;
 use walks::{GOALS, ITEMS};
@@ -15,19 +16,18 @@ use walks::{GOALS, ITEMS};
 #[derive(Clone, Copy, Debug, PartialEq, Eq)]
 pub struct Refused(pub u32);
 
-impl fmt::Display for Refused {
-    ghost use Rattle.std.specs.Prelude.{Some};
-
-    ghost output = { λ r. Some (refused_text r.0) };
-
+impl Refused {
     #[tactic(auto, unfolding(crate::specs::Text::refused_text))]
-    fn fmt<W: fmt::Write>(&self, f: &mut fmt::Formatter<W>) -> fmt::Result {
+    pub fn put(&self, text: &mut Text)
+        requires { length text.old.items + length (refused_text self.now.0) ≤ 8192 }
+        ensures { text.new.items ≡ text.old.items ++ refused_text self.now.0 }
+    {
         let number = [self.0];
         let line = Line {
-            word: "refused",
+            word: b"refused",
             numbers: &number,
         };
-        write!(f, "{line}")
+        line.put(text)
     }
 }
 
@@ -37,23 +37,21 @@ pub struct Stands<'a> {
     pub struck: &'a [u32],
 }
 
-impl fmt::Display for Stands<'_> {
-    ghost use Rattle.std.specs.Prelude.{Some};
-    ghost use Rattle.text_answer.specs.Text.{stands_text};
-
-    ghost output = { λ s. Some (stands_text s.struck.now) };
-
-    #[tactic(auto, unfolding(crate::specs::Text::stands_text))]
-    fn fmt<W: fmt::Write>(&self, f: &mut fmt::Formatter<W>) -> fmt::Result {
+impl Stands<'_> {
+    pub fn put(&self, text: &mut Text)
+        requires { length text.old.items + length (stands_text self.now.struck.now) ≤ 8192 }
+        ensures { text.new.items ≡ text.old.items ++ stands_text self.now.struck.now }
+    {
         let verdict = Line {
-            word: "verdict",
+            word: b"verdict",
             numbers: &[0],
         };
+        verdict.put(text);
         let struck = Line {
-            word: "struck",
+            word: b"struck",
             numbers: self.struck,
         };
-        write!(f, "{verdict}{struck}")
+        struck.put(text)
     }
 }
 
@@ -65,29 +63,27 @@ pub struct Blames<'a> {
     pub because: &'a [u32],
 }
 
-impl fmt::Display for Blames<'_> {
-    ghost use Rattle.std.specs.Prelude.{Some};
-    ghost use Rattle.slip_reader.specs.Form.{slip_from};
-    ghost use Rattle.text_answer.specs.Text.{blame_text};
-
-    ghost output = { λ b. Some (blame_text (slip_from b.verdict b.needs.now b.because.now)) };
-
-    #[tactic(auto, unfolding(crate::specs::Text::blame_text))]
-    fn fmt<W: fmt::Write>(&self, f: &mut fmt::Formatter<W>) -> fmt::Result {
+impl Blames<'_> {
+    pub fn put(&self, text: &mut Text)
+        requires { let b = self.now in length text.old.items + length (blame_text (slip_from b.verdict b.needs.now b.because.now)) ≤ 8192 }
+        ensures { let b = self.now in text.new.items ≡ text.old.items ++ blame_text (slip_from b.verdict b.needs.now b.because.now) }
+    {
         let first = [self.verdict];
         let verdict = Line {
-            word: "verdict",
+            word: b"verdict",
             numbers: &first,
         };
+        verdict.put(text);
         let needs = Line {
-            word: "needs",
+            word: b"needs",
             numbers: self.needs,
         };
+        needs.put(text);
         let because = Line {
-            word: "because",
+            word: b"because",
             numbers: self.because,
         };
-        write!(f, "{verdict}{needs}{because}")
+        because.put(text)
     }
 }
 
@@ -108,18 +104,13 @@ pub enum Report {
     Refuses(Refusal),
 }
 
-impl fmt::Display for Report {
-    ghost use Rattle.std.specs.Prelude.{Some};
-    ghost use Rattle.text_answer.specs.Report.{report_text};
-
-    ghost output = { λ r. Some (report_text r) };
-
-    fn fmt<W: fmt::Write>(&self, f: &mut fmt::Formatter<W>) -> fmt::Result {
+impl Report {
+    pub fn put(&self, text: &mut Text)
+        requires { length text.old.items + length (report_text self.now) ≤ 8192 }
+        ensures { text.new.items ≡ text.old.items ++ report_text self.now }
+    {
         match self {
-            Report::Stands { struck } => {
-                let stands = Stands { struck };
-                write!(f, "{stands}")
-            }
+            Report::Stands { struck } => Stands { struck }.put(text),
             Report::Blames {
                 verdict,
                 needs,
@@ -130,26 +121,23 @@ impl fmt::Display for Report {
                     needs,
                     because,
                 };
-                write!(f, "{blames}")
+                blames.put(text)
             }
-            Report::Refuses(why) => {
-                let refused = Refused(u32::from(*why));
-                write!(f, "{refused}")
-            }
+            Report::Refuses(why) => Refused(u32::from(*why)).put(text),
         }
     }
 }
 
 // The items newly forbidden, ascending: open on the sheet and shut by the slip.
 #[tactic(auto, using(crate::proofs::ListLaws::listing))]
-pub fn newly_forbidden<const N: usize>(marks: &[Mark], slip: &[u8]) -> ArrayVec<u32, N>
-    requires { (length marks.now < length slip.now) × (length marks.now ≤ N) × (length marks.now ≤ 4294967296) }
+pub fn newly_forbidden<const N: usize>(marks: &[Mark], slip: &[u8]) -> ArrayVec<usize, N>
+    requires { (length marks.now < length slip.now) × (length marks.now ≤ N) }
     ensures { result.items ≡ newly_forbidden marks.now slip.now }
 {
     let mut list = ArrayVec::new();
     for i in 0..marks.len() {
         if marks[i].is_open() && Mark::from(slip[i + 1]).is_forbidden() {
-            list.push(i as u32);
+            list.push(i);
         }
     }
     list

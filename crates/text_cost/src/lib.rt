@@ -1,7 +1,7 @@
 // What the tool prints for an item number and a sheet.
 #![tactic(auto)]
 
-ghost use Rattle.std.specs.Prelude.{◌≡◌, [], ◌∷◌, ◌+◌, ◌<◌};
+ghost use Rattle.std.specs.Prelude.{◌≡◌, [], ◌∷◌, ◌++◌, ◌+◌, ◌≤◌, ◌<◌, length};
 ghost use Rattle.sheet.specs.Answer.{finished, answer_of};
 ghost use Rattle.sheet.specs.Sheet.{sheet_of};
 ghost use Rattle.sheet.specs.Slip.{slip_bytes};
@@ -13,8 +13,8 @@ ghost use Rattle.text_cost.specs.Told.{told_text};
 use cost_lines::Costs;
 use sheet_reader::page::Page;
 use sheet_required::whole::Sheet;
-use std::fmt;
 use text_answer::Refused;
+use text_lines::Text;
 use varint::{Bytes, Refusal};
 use walks::ITEMS;
 
@@ -25,18 +25,14 @@ pub enum Told {
     Refuses(Refusal),
 }
 
-impl fmt::Display for Told {
-    ghost use Rattle.std.specs.Prelude.{Some};
-
-    ghost output = { λ t. Some (told_text t) };
-
-    fn fmt<W: fmt::Write>(&self, f: &mut fmt::Formatter<W>) -> fmt::Result {
+impl Told {
+    pub fn put(&self, text: &mut Text)
+        requires { length text.old.items + length (told_text self.now) ≤ 8192 }
+        ensures { text.new.items ≡ text.old.items ++ told_text self.now }
+    {
         match self {
-            Told::Costs(costs) => write!(f, "{costs}"),
-            Told::Refuses(why) => {
-                let refused = Refused(u32::from(*why));
-                write!(f, "{refused}")
-            }
+            Told::Costs(costs) => costs.put(text),
+            Told::Refuses(why) => Refused(u32::from(*why)).put(text),
         }
     }
 }
@@ -85,7 +81,7 @@ fn answered(sheet: &[u8], item: u32) -> Told
 }
 
 // Reads an item number and the sheet behind it, and tells what the closures cost.
-pub fn report_cost(input: &[u8]) -> Told
+pub fn tell_cost(input: &[u8]) -> Told
     ensures { told_text result ≡ cost_text input.now }
 {
     let mut bytes = Bytes { rest: input };
@@ -93,4 +89,14 @@ pub fn report_cost(input: &[u8]) -> Told
         Ok(item) => answered(bytes.rest, item),
         Err(fault) => Told::Refuses(fault),
     }
+}
+
+// Reads an item number and the sheet behind it, and gives the text of what the closures cost.
+pub fn report_cost(input: &[u8]) -> Text
+    ensures { result.items ≡ cost_text input.now }
+{
+    let told = tell_cost(input);
+    let mut text = Text::new();
+    told.put(&mut text);
+    text
 }

@@ -1,27 +1,53 @@
-// Lines of text: a word and decimal numbers behind it, or a number alone.
+// Lines of text, added to a text: a word and decimal numbers behind it, or a number alone.
 #![tactic(auto)]
 
-ghost use Rattle.std.specs.Prelude.{Some};
+ghost use Rattle.std.specs.Prelude.{◌≡◌, ◌++◌, ◌+◌, ◌≤◌, length, decimal};
 ghost use Rattle.text_lines.specs.Lines.{line, number_line, difference_line};
 
-use std::fmt;
+use arrayvec::ArrayVec;
+
+// The most bytes that a program prints.
+pub const TEXT_BYTES: usize = 8192;
+
+// A text as far as it is written. A value adds its own text to it and cannot fail: a `Display` may answer an error, and promises its text only where it
+// answers none.
+pub type Text = ArrayVec<u8, TEXT_BYTES>;
+
+// Adds bytes.
+fn add(text: &mut Text, bytes: &[u8])
+    requires { length text.old.items + length bytes.now ≤ 8192 }
+    ensures { text.new.items ≡ text.old.items ++ bytes.now }
+{
+    let _ = text.try_extend_from_slice(bytes);
+}
+
+// Adds a number in decimal.
+fn add_number(text: &mut Text, number: u32)
+    requires { length text.old.items + length (decimal number) ≤ 8192 }
+    ensures { text.new.items ≡ text.old.items ++ decimal number }
+{
+    let mut digits = itoa::Buffer::new();
+    add(text, digits.format(number).as_bytes());
+}
 
 // A word, and numbers each behind a space.
 #[derive(Clone, Copy, Debug, PartialEq, Eq)]
 pub struct Line<'a> {
-    pub word: &'a str,
+    pub word: &'a [u8],
     pub numbers: &'a [u32],
 }
 
-impl fmt::Display for Line<'_> {
-    ghost output = { λ l. Some (line l.word.now l.numbers.now) };
-
-    fn fmt<W: fmt::Write>(&self, f: &mut fmt::Formatter<W>) -> fmt::Result {
-        f.write_str(self.word)?;
+impl Line<'_> {
+    pub fn put(&self, text: &mut Text)
+        requires { length text.old.items + length (line self.now.word.now self.now.numbers.now) ≤ 8192 }
+        ensures { text.new.items ≡ text.old.items ++ line self.now.word.now self.now.numbers.now }
+    {
+        add(text, self.word);
         for number in self.numbers {
-            write!(f, " {number}")?;
+            add(text, b" ");
+            add_number(text, *number);
         }
-        f.write_str("\n")
+        add(text, b"\n");
     }
 }
 
@@ -29,12 +55,13 @@ impl fmt::Display for Line<'_> {
 #[derive(Clone, Copy, Debug, PartialEq, Eq)]
 pub struct NumberLine(pub u32);
 
-impl fmt::Display for NumberLine {
-    ghost output = { λ l. Some (number_line l.0) };
-
-    fn fmt<W: fmt::Write>(&self, f: &mut fmt::Formatter<W>) -> fmt::Result {
-        let number = self.0;
-        write!(f, "{number}\n")
+impl NumberLine {
+    pub fn put(&self, lines: &mut Text)
+        requires { length lines.old.items + length (number_line self.now.0) ≤ 8192 }
+        ensures { lines.new.items ≡ lines.old.items ++ number_line self.now.0 }
+    {
+        add_number(lines, self.0);
+        add(lines, b"\n");
     }
 }
 
@@ -45,11 +72,15 @@ pub struct DifferenceLine {
     pub part: u32,
 }
 
-impl fmt::Display for DifferenceLine {
-    ghost output = { λ l. Some (difference_line l.whole l.part) };
-
-    fn fmt<W: fmt::Write>(&self, f: &mut fmt::Formatter<W>) -> fmt::Result {
-        let difference = i64::from(self.whole) - i64::from(self.part);
-        write!(f, "{difference}\n")
+impl DifferenceLine {
+    pub fn put(&self, text: &mut Text)
+        requires { length text.old.items + length (difference_line self.now.whole self.now.part) ≤ 8192 }
+        ensures { text.new.items ≡ text.old.items ++ difference_line self.now.whole self.now.part }
+    {
+        if self.part <= self.whole {
+            return NumberLine(self.whole - self.part).put(text);
+        }
+        add(text, b"-");
+        NumberLine(self.part - self.whole).put(text)
     }
 }

@@ -1,7 +1,7 @@
 -- The text of a sheet has at most 8,192 bytes. Assumes nothing.
-use Prim.Native.Nat.{ℕ, ◌≤◌, ◌<◌}
+use Prim.Native.Nat.{ℕ, zero, suc, ◌≤◌, ◌<◌}
 use mathlib.Core.Path.{◌≡◌, refl}
-use mathlib.Core.List.{List}
+use mathlib.Core.List.{List, [], ◌∷◌}
 use mathlib.Core.Bool.{◌&&◌}
 use native.Mathlib.Omega.{arith}
 use native.Mathlib.Decide.{dec_lt}
@@ -19,11 +19,20 @@ use Rattle.text_report.proofs.AnswerLaws.{answer_finishes}
 use Rattle.text_report.proofs.SlipTextLaws.{passed_slip, stands_is, blame_is, blamed_text}
 
 -- the items newly forbidden are items, each once
-newly_below : (ms slip : List ℕ) → Below (length ms) (newly_forbidden ms slip)
+pub newly_below : (ms slip : List ℕ) → Below (length ms) (newly_forbidden ms slip)
 unfolding newly_forbidden
 newly_below ms slip =
     below_all (length ms) (newly_forbidden ms slip)
     (λ x m. let s = span_member (length ms) 0 x (keep_member _ x (span (length ms) 0) m).0 in omega (arith, s.1))
+
+below_at : (n : ℕ) (xs : List ℕ) → Below n xs → (k d : ℕ) → k < length xs → get_or xs k d < n
+below_at n [] b k d h = absurd (omega arith)
+below_at n (x ∷ xs) b zero d h = b.0
+below_at n (x ∷ xs) b (suc k) d h = below_at n xs b.1 k d (omega arith)
+
+-- so that 32 bits hold each
+pub newly_short : (ms slip : List ℕ) → length ms ≤ 576 → (k d : ℕ) → k < length (newly_forbidden ms slip) → get_or (newly_forbidden ms slip) k d < 4294967296
+newly_short ms slip few k d h = omega (arith, few, below_at (length ms) _ (newly_below ms slip) k d h)
 
 newly_few : (ms slip : List ℕ) → length (newly_forbidden ms slip) ≤ length ms
 unfolding newly_forbidden

@@ -1,7 +1,7 @@
 // What the program prints for a sheet.
 #![tactic(auto)]
 
-ghost use Rattle.std.specs.Prelude.{◌≡◌, ◌≤◌, ◌<◌, [], List, ℕ, length};
+ghost use Rattle.std.specs.Prelude.{◌≡◌, ◌≤◌, ◌<◌, [], List, ℕ, length, All};
 ghost use Rattle.sheet.specs.Answer.{finished};
 ghost use Rattle.sheet.specs.Slip.{read_slip};
 ghost use Rattle.slip_reader.specs.Form.{numbers_in};
@@ -13,6 +13,7 @@ use arrayvec::ArrayVec;
 use sheet_reader::page::Page;
 use slip_reader::NumberList;
 use text_answer::Report;
+use text_lines::Text;
 
 // The numbers of a slip's list.
 fn listed<const N: usize>(list: &NumberList) -> ArrayVec<u32, N>
@@ -25,6 +26,18 @@ fn listed<const N: usize>(list: &NumberList) -> ArrayVec<u32, N>
     items
 }
 
+// Items as a slip's lists have them.
+fn items<const N: usize>(list: &ArrayVec<usize, N>) -> ArrayVec<u32, N>
+    requires { All (λ i. i < 4294967296) list.now.items }
+    ensures { result.items ≡ list.now.items }
+{
+    let mut items = ArrayVec::new();
+    for &item in list.as_slice() {
+        items.push(item as u32);
+    }
+    items
+}
+
 // What is told of a round that stands, by the marks of its sheet.
 fn stands(sheet: &[u8], slip: &[u8]) -> Report
     requires { (pass_on sheet.now ≡ finished slip.now) × (verdict_in slip.now ≡ 0) }
@@ -33,7 +46,7 @@ fn stands(sheet: &[u8], slip: &[u8]) -> Report
     let mut page = Page::empty();
     match page.read(sheet) {
         Ok(taken) => Report::Stands {
-            struck: text_answer::newly_forbidden(taken.marks, slip),
+            struck: items(&text_answer::newly_forbidden(taken.marks, slip)),
         },
         // never: the pass has read it
         Err(why) => Report::Refuses(why),
@@ -68,7 +81,7 @@ fn finishes(sheet: &[u8], slip: &[u8]) -> Report
 }
 
 // Runs the pass on a sheet and tells what it answers.
-pub fn report(sheet: &[u8], work: &mut [u32]) -> Report
+pub fn tell(sheet: &[u8], work: &mut [u32]) -> Report
     ensures text_of_sheet { report_text result ≡ text sheet.now (answer_to sheet.now work.old) }
     ensures work_as_outcome { work.new ≡ (outcome (answer_to sheet.now work.old) work.old []).work }
 {
@@ -77,4 +90,15 @@ pub fn report(sheet: &[u8], work: &mut [u32]) -> Report
         Ok(length) => finishes(sheet, &slip[..length]),
         Err(why) => Report::Refuses(why),
     }
+}
+
+// Runs the pass on a sheet and gives the text of what it answers.
+pub fn report(sheet: &[u8], work: &mut [u32]) -> Text
+    ensures text_of_sheet { result.items ≡ text sheet.now (answer_to sheet.now work.old) }
+    ensures work_as_outcome { work.new ≡ (outcome (answer_to sheet.now work.old) work.old []).work }
+{
+    let told = tell(sheet, work);
+    let mut text = Text::new();
+    told.put(&mut text);
+    text
 }

@@ -7,13 +7,13 @@ use work::WORK_NUMBERS;
 
 fn main(rt: HostRuntime) {
     let mut input = [0u8; INPUT_BYTES];
-    let read = match program_input::read_input(&mut rt.stdin(), &mut input) {
+    let read = match program_input::read_program_input(&mut rt.stdin(), &mut input) {
         Ok(read) => read,
         Err(error) => return program_input::say_failed(&rt, "ways: standard input", error),
     };
     let mut work = [0u32; WORK_NUMBERS];
-    let report = text_report::report(&input[..read], &mut work);
-    if let Err(error) = print!(rt; "{report}") {
+    let text = text_report::report(&input[..read], &mut work);
+    if let Err(error) = rt.write_all(text.as_slice()) {
         program_input::say_failed(&rt, "ways: standard output", error);
     }
 }

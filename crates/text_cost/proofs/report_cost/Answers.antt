@@ -1,10 +1,7 @@
--- `report_cost` tells what the number in front draws, or the answer for it and the bytes behind it.
-use mathlib.Core.Path.{◌∙◌}
-use Rattle.text_cost.proofs.AskedLaws.{read_text, unread_text}
+-- The text of an input has room.
+use Rattle.std.proofs.Common.{arith, ap, length}
+use Rattle.cost_rules.proofs.CostLaws.{cost_size}
 use Rattle.text_cost.proofs.report_cost.Goals as goal
 
-pub returns-in-Ok : goal.returns-in-Ok
-returns-in-Ok c = c.answered.ensures ∙ read_text c.args.input.now _ _ c.in-Ok.ensures.got
-
-pub returns-in-Err : goal.returns-in-Err
-returns-in-Err c = unread_text c.args.input.now _ c.in-Err.ensures.refused
+pub put-requires : goal.put-requires
+put-requires c = omega (arith, cost_size c.args.input.now, ap length c.tell_cost-told.ensures, ap length c.new-text.ensures)
