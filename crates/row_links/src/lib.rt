@@ -8,8 +8,14 @@ ghost use Rattle.row_links.specs.Links.{taken_off, AllLinked, ItemLinked};
 use row_spread::CHAIN_NUMBERS;
 use rows::ROW_LENGTH;
 use rows::net::Net;
-use walks::ARCS;
 use walks::arc::Arc;
+use walks::{ARC_NUMBERS, ARCS};
+
+// The numbers of the packed arcs, three for each. In one list of all numbers of `Links`, the arcs first, the chains begin behind them.
+pub const CHAINS: usize = ARC_NUMBERS;
+
+// The numbers of the packed arcs and their chains.
+pub const LINK_NUMBERS: usize = CHAINS + CHAIN_NUMBERS;
 
 // The open arcs of a graph, packed to the front, their chains, and how many there are.
 #[derive(Clone, Debug, PartialEq, Eq, Drop)]
