@@ -11,10 +11,10 @@ use rows::net::Net;
 use walks::arc::Arc;
 use walks::{ARC_NUMBERS, ARCS};
 
-// The numbers of the packed arcs, three for each. In one list of all numbers of `Links`, the arcs first, the chains begin behind them.
+// The numbers that `Links::arcs` takes, three for each arc: where the chains begin in a list that has them behind the arcs.
 pub const CHAINS: usize = ARC_NUMBERS;
 
-// The numbers of the packed arcs and their chains.
+// The numbers that `Links::arcs` and `Links::chains` take together.
 pub const LINK_NUMBERS: usize = CHAINS + CHAIN_NUMBERS;
 
 // The open arcs of a graph, packed to the front, their chains, and how many there are.
