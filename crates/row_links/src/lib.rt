@@ -8,8 +8,14 @@ ghost use Rattle.row_links.specs.Links.{taken_off, AllLinked, ItemLinked};
 use row_spread::CHAIN_NUMBERS;
 use rows::ROW_LENGTH;
 use rows::net::Net;
-use walks::ARCS;
 use walks::arc::Arc;
+use walks::{ARC_NUMBERS, ARCS};
+
+// The numbers that `Links::arcs` takes, three for each arc: where the chains begin in a list that has them behind the arcs.
+pub const CHAINS: usize = ARC_NUMBERS;
+
+// The numbers that `Links::arcs` and `Links::chains` take together.
+pub const LINK_NUMBERS: usize = CHAINS + CHAIN_NUMBERS;
 
 // The open arcs of a graph, packed to the front, their chains, and how many there are.
 #[derive(Clone, Debug, PartialEq, Eq, Drop)]
