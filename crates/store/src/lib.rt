@@ -105,6 +105,16 @@ fn same_legs(arcs: &[Arc], legs: &[u32]) -> bool
     true
 }
 
+// Puts the numbers over the front of those that are kept. A loop, since the library's copy of a slice would have the archive for C ask for `memmove`.
+fn write_front(kept: &mut [u32], numbers: &[u32])
+    requires { length numbers.now ≤ length kept.old }
+    ensures { kept.new ≡ front numbers.now kept.old }
+{
+    for i in 0..numbers.len() {
+        kept[i] = numbers[i];
+    }
+}
+
 // Puts the arcs over the front of the numbers, tail, head and weight of each.
 fn put_legs(arcs: &[Arc], legs: &mut [u32])
     requires { 3 * length arcs.now ≤ length legs.old }
@@ -210,7 +220,7 @@ impl Store {
         self.source = taken.sheet.header.source as u32;
         self.target = taken.sheet.header.target as u32;
         put_legs(taken.sheet.arcs, &mut self.legs);
-        self.services[..taken.services.len()].copy_from_slice(taken.services);
+        write_front(&mut self.services, taken.services);
     }
 
     // Puts the newcomer behind the slips.

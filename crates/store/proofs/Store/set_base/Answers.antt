@@ -7,4 +7,4 @@ pub returns : goal.returns
 returns c =
     let t = c.args.taken.now in
     based_as c.args.self.now _ t.sheet.header t.sheet.arcs.now t.services.now t.sheet.whole.sized.0 t.one_each refl refl refl refl
-    c.put_legs.ensures (rw c.copy_from_slice.ensures.after refl) refl refl
+    c.put_legs.ensures c.write_front.ensures refl refl
