@@ -1,4 +1,4 @@
-ghost use Rattle.std.specs.Prelude.{◌≡◌, ℕ, List, length, IfOk, IfErr, OnOk};
+ghost use Rattle.std.specs.Prelude.{◌≡◌, ℕ, List, length, IfOk, IfErr, OnOk, OnErr};
 ghost use Rattle.varint.specs.Varint.{Read, got, refuse, read_number, several};
 ghost use Rattle.varint.specs.Refusal.{number_of};
 ghost use Rattle.lists.specs.Lists.{front};
@@ -12,10 +12,11 @@ pub trait Kind {
 
     ghost reads: { Self → List ℕ → Read Self.Value };
 
-    // Takes the value at the front.
+    // Takes the value at the front; where it is refused, nothing.
     fn take(&self, bytes: &mut Bytes) -> Result<Self::Value, Refusal>
         ensures got { IfOk result (λ x. reads self.now bytes.old.rest.now ≡ got x bytes.new.rest.now) }
-        ensures refused { IfErr result (λ why. reads self.now bytes.old.rest.now ≡ refuse (number_of why)) };
+        ensures refused { IfErr result (λ why. reads self.now bytes.old.rest.now ≡ refuse (number_of why)) }
+        ensures kept { OnErr result (bytes.new.rest.now ≡ bytes.old.rest.now) };
 }
 
 // Numbers as they are.
@@ -32,26 +33,32 @@ impl Kind for Plain {
     }
 }
 
-// Takes as many values as `out` has places and stores each, up to the first that is refused.
+// Takes as many values as `out` has places and stores each, up to the first that is refused; where one is, none is taken from `bytes`.
 pub fn read_all<K: Kind>(kind: &K, bytes: &mut Bytes, out: &mut [K::Value]) -> Result<(), Refusal>
     ensures got { OnOk result (several (K.reads kind.now) (length out.old) bytes.old.rest.now ≡ got out.new bytes.new.rest.now) }
     ensures refused { IfErr result (λ why. several (K.reads kind.now) (length out.old) bytes.old.rest.now ≡ refuse (number_of why)) }
+    ensures kept { OnErr result (bytes.new.rest.now ≡ bytes.old.rest.now) }
     ensures in_front { out.new ≡ front (begun (K.reads kind.now) (length out.old) bytes.old.rest.now) out.old }
 {
+    let mut ahead = *bytes;
     for i in 0..out.len() {
-        out[i] = kind.take(bytes)?;
+        out[i] = kind.take(&mut ahead)?;
     }
+    *bytes = ahead;
     Ok(())
 }
 
-// Passes over `count` numbers.
+// Passes over `count` numbers, or over none where one of them is refused.
 #[tactic(auto, using(crate::proofs::SeveralLaws::gone))]
 pub fn skip_numbers(bytes: &mut Bytes, count: usize) -> Result<(), Refusal>
     ensures got { OnOk result (several read_number count bytes.old.rest.now ≡ got (begun read_number count bytes.old.rest.now) bytes.new.rest.now) }
     ensures refused { IfErr result (λ why. several read_number count bytes.old.rest.now ≡ refuse (number_of why)) }
+    ensures kept { OnErr result (bytes.new.rest.now ≡ bytes.old.rest.now) }
 {
+    let mut ahead = *bytes;
     for i in 0..count {
-        bytes.take_number()?;
+        ahead.take_number()?;
     }
+    *bytes = ahead;
     Ok(())
 }

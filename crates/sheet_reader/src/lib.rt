@@ -2,7 +2,7 @@
 
 #![tactic(auto)]
 
-ghost use Rattle.std.specs.Prelude.{◌≡◌, ◌+◌, ◌≤◌, length, take, Ok, IfOk, IfErr, OnOk};
+ghost use Rattle.std.specs.Prelude.{◌≡◌, ◌+◌, ◌≤◌, length, take, Ok, IfOk, IfErr, OnOk, OnErr};
 ghost use Rattle.lists.specs.Lists.{front};
 ghost use Rattle.varint.specs.Varint.{got, refuse};
 ghost use Rattle.varint.specs.Refusal.{number_of};
@@ -21,7 +21,8 @@ use walks::NODES;
 use walks::arc::Arc;
 use walks::mark::Mark;
 
-// Takes the arcs and the marks of a sheet whose header was read. They are written here and in `read_behind`, so there is no `Sheet` yet.
+// Takes the arcs and the marks of a sheet whose header was read, or nothing where one is refused. They are written here and in `read_behind`, so there is no
+// `Sheet` yet.
 fn take_lists(
     bytes: &mut Bytes,
     header: Header,
@@ -31,11 +32,14 @@ fn take_lists(
     requires { (header.nodes ≤ 64) × (header.arcs ≤ 512) × (512 ≤ length arcs.old) × (576 ≤ length marks.old) }
     ensures got { let bs = bytes.old.rest.now in OnOk result (read_arcs header bs ≡ got (sheet_behind header bs) bytes.new.rest.now) }
     ensures refused { IfErr result (λ why. read_arcs header bytes.old.rest.now ≡ refuse (number_of why)) }
+    ensures kept { OnErr result (bytes.new.rest.now ≡ bytes.old.rest.now) }
     ensures arcs_in_front { arcs.new ≡ front (arcs_behind header bytes.old.rest.now) arcs.old }
     ensures marks_in_front { marks.new ≡ front (marks_behind header bytes.old.rest.now) marks.old }
 {
-    sheet_parts::take_arcs(bytes, header.nodes as u32, header.arcs, arcs)?;
-    section::read_all(&Marks, bytes, &mut marks[..header.nodes + header.arcs])?;
+    let mut ahead = *bytes;
+    sheet_parts::take_arcs(&mut ahead, header.nodes as u32, header.arcs, arcs)?;
+    section::read_all(&Marks, &mut ahead, &mut marks[..header.nodes + header.arcs])?;
+    *bytes = ahead;
     Ok(())
 }
 
@@ -58,7 +62,7 @@ fn read_behind(
 {
     let mut bytes = Bytes { rest: section };
     take_lists(&mut bytes, header, arcs, marks)?;
-    sheet_services::take_services(&mut bytes, leads, header.nodes, services)?;
+    sheet_services::take_services(&mut bytes, usize::from(leads), header.nodes, services)?;
     if !bytes.rest.is_empty() {
         return Err(Refusal::Rest);
     }

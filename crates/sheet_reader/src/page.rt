@@ -41,14 +41,17 @@ impl Page {
     }
 
     // Reads a sheet and lends what was read, or says why it is refused.
-    #[tactic(auto, using(crate::proofs::LoadedLaws::loaded))]
     pub fn read<'a>(&'a mut self, sheet: &[u8]) -> Result<Sheet<'a>, Refusal>
         ensures header_told { IfOk result (λ s. answered (taken sheet.now) ≡ Ok s.header) }
         ensures taken_refused { IfErr result (λ why. taken sheet.now ≡ refuse (number_of why)) }
         ensures loaded { IfOk result (λ s. Loaded sheet.now s.header s.arcs.now s.marks.now) }
     {
-        let serviced = self.read_serviced(sheet)?;
-        Ok(serviced.sheet)
+        let header = crate::read(sheet, &mut self.arcs, &mut self.marks)?;
+        Ok(Sheet {
+            header,
+            arcs: &self.arcs[..header.arcs],
+            marks: &self.marks[..header.nodes + header.arcs],
+        })
     }
 
     // The same for a caller that looks at the service minutes by themselves.

@@ -1,16 +1,18 @@
 -- Laws of the form of a sheet: with service minutes where the byte 1 stands in front, and without them else. Assumes nothing.
 use Prim.Native.Nat.{ℕ}
 use mathlib.Core.Path.{◌≡◌, refl, sym, ap, ◌∙◌}
-use mathlib.Core.Bool.{Bool, ◌&&◌}
+use mathlib.Core.Bool.{Bool, true, false, ◌&&◌}
 use mathlib.Core.List.{List, [], ◌∷◌}
 use native.Mathlib.Omega.{arith}
 use lib.Dec.{eqb}
 use lib.ListN.{length, get_or}
+use Rattle.std.specs.Int.{from_bool}
 use Rattle.std.specs.List.{list_all}
 use Rattle.lists.specs.Lists.{every}
 use Rattle.sheet.proofs.LeadLaws.{lead_one, Led, plain, led, led_is}
 use Rattle.sheet.specs.Page.{no_service}
 use Rattle.sheet.specs.Reader.{lead, content}
+use Rattle.sheet_services.specs.Services.{leading}
 
 every_all : (f : ℕ → Bool) (xs : List ℕ) → list_all f xs ≡ every f xs
 every_all f [] = refl
@@ -40,3 +42,8 @@ leads_other s e n = unled s (λ o. n (sym (ap (λ (bs : List ℕ). get_or bs 0 0
 pub leads_none : (s : List ℕ) → length s ≡ 0 → Leads s 0 s
 leads_none [] e = unled [] (λ o. omega (arith, o))
 leads_none (b ∷ bs) e = absurd (omega (arith, e))
+
+-- whether a number leads, as a count of numbers
+pub counted : (leads : Bool) {k : ℕ} → k ≡ from_bool leads → k ≡ leading leads
+counted true e = e
+counted false e = e

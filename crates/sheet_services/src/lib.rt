@@ -2,7 +2,7 @@
 
 #![tactic(auto)]
 
-ghost use Rattle.std.specs.Prelude.{◌≡◌, ◌≤◌, length, IfErr, OnOk};
+ghost use Rattle.std.specs.Prelude.{◌≡◌, ◌≤◌, length, IfErr, OnOk, OnErr};
 ghost use Rattle.lists.specs.Lists.{front};
 ghost use Rattle.varint.specs.Refusal.{number_of};
 ghost use Rattle.sheet.specs.Good.{All};
@@ -35,27 +35,30 @@ pub fn no_service(services: &[u32]) -> bool
 }
 
 // Takes what stands behind the content of a sheet of `nodes` nodes: where a 1 leads, the service minutes, of which one is not 0; else nothing.
-// They are stored over the front of `services`.
+// They are stored over the front of `services`. `leading` says how many numbers stand before the content. Where they are refused, nothing is taken.
 pub fn take_services(
     bytes: &mut Bytes,
-    leads: bool,
+    leading: usize,
     nodes: usize,
     services: &mut [u32],
 ) -> Result<(), Refusal>
     requires { nodes ≤ length services.old }
-    ensures got { OnOk result (ServicesTaken (leading leads) nodes bytes.old.rest.now bytes.new.rest.now) }
-    ensures refused { IfErr result (λ why. ServicesRefused (leading leads) nodes bytes.old.rest.now (number_of why)) }
-    ensures services_in_front { services.new ≡ front (services_in (leading leads) nodes bytes.old.rest.now) services.old }
+    ensures got { OnOk result (ServicesTaken leading nodes bytes.old.rest.now bytes.new.rest.now) }
+    ensures refused { IfErr result (λ why. ServicesRefused leading nodes bytes.old.rest.now (number_of why)) }
+    ensures kept { OnErr result (bytes.new.rest.now ≡ bytes.old.rest.now) }
+    ensures services_in_front { services.new ≡ front (services_in leading nodes bytes.old.rest.now) services.old }
 {
     let listed = &mut services[..nodes];
-    if !leads {
+    if leading == 0 {
         listed.fill(0);
         return Ok(());
     }
-    section::read_all(&Services, bytes, listed)?;
+    let mut ahead = *bytes;
+    section::read_all(&Services, &mut ahead, listed)?;
     if no_service(listed) {
         return Err(Refusal::Mark);
     }
+    *bytes = ahead;
     Ok(())
 }
 

@@ -2,7 +2,7 @@
 
 #![tactic(auto)]
 
-ghost use Rattle.std.specs.Prelude.{◌≡◌, ◌≤◌, [], length, IfOk, IfErr};
+ghost use Rattle.std.specs.Prelude.{◌≡◌, ◌≤◌, [], length, IfOk, IfErr, OnErr};
 ghost use Rattle.varint.specs.Varint.{got, refuse};
 ghost use Rattle.varint.specs.Refusal.{number_of};
 ghost use Rattle.varint.specs.declared.refusal.Refusal.TheVariants.{BadSlip};
@@ -30,15 +30,18 @@ impl NumberList<'_> {
     }
 }
 
-// Takes a list: a count, and as many numbers.
+// Takes a list: a count, and as many numbers; or nothing where one of them is refused.
 #[tactic(auto, unfolding(sheet::specs::Slip::read_list, varint::specs::Varint::after))]
 fn take_list<'a>(bytes: &mut Bytes<'a>) -> Result<NumberList<'a>, Refusal>
     ensures got { IfOk result (λ list. read_list bytes.old.rest.now ≡ got (numbers_in list) bytes.new.rest.now) }
     ensures refused { IfErr result (λ why. read_list bytes.old.rest.now ≡ refuse (number_of why)) }
+    ensures kept { OnErr result (bytes.new.rest.now ≡ bytes.old.rest.now) }
 {
-    let count = bytes.take_number()?;
-    let listed = bytes.rest;
-    section::skip_numbers(bytes, count as usize)?;
+    let mut ahead = *bytes;
+    let count = ahead.take_number()?;
+    let listed = ahead.rest;
+    section::skip_numbers(&mut ahead, count as usize)?;
+    *bytes = ahead;
     Ok(NumberList {
         count,
         bytes: listed,

@@ -19,7 +19,8 @@ pub record Decided (f : List ℕ → Read ℕ) (most : ℕ) (bs : List ℕ) (ans
 abbrev pub Asking : ℕ → List ℕ → Type 0
 Asking most bs = (length bs ≤ most) × ((i : ℕ) → i < length bs → 128 ≤ get_or bs i 0)
 
--- what the contract of `take_number` allows where s is to be read: the answer r, with `rest` left to read; its clauses, word for word
+-- what the contract of `take_number` allows where s is to be read: the answer r, with `rest` left to read. They are its clauses, word for word, and its
+-- clause `decided`: the proof of `take_number` gives it at each return.
 abbrev pub Allowed : List ℕ → Result ℕ Refusal → List ℕ → Type 0
 Allowed s r rest = record {
   got : IfOk r (λ x. read_number s ≡ got x rest);

@@ -1,6 +1,7 @@
 ghost use Rattle.std.specs.Prelude.{◌≡◌, ◌<◌, ltb, IfOk, IfErr, OnErr};
 ghost use Rattle.varint.specs.Varint.{got, refuse, read_number, number};
 ghost use Rattle.varint.specs.Refusal.{number_of};
+ghost use Rattle.varint.specs.Decided.{Allowed};
 
 use crate::refusal::Refusal;
 
@@ -21,6 +22,7 @@ impl Bytes<'_> {
         ensures refused { IfErr result (λ why. read_number self.old.rest.now ≡ refuse (number_of why)) }
         ensures kept { OnErr result (self.new.rest.now ≡ self.old.rest.now) }
         ensures small { IfOk result (λ x. x < 268435456) }
+        ensures decided { Allowed self.old.rest.now result self.new.rest.now }
     {
         // Nearly every number has one byte: taken by itself, it needs no product.
         if let Some((&only, behind)) = self.rest.split_first() {
@@ -51,15 +53,21 @@ impl Bytes<'_> {
         Err(Refusal::Overlong)
     }
 
-    // Takes the number at the front, which is to be below `end`; otherwise the refusal is `why`.
+    // Takes the number at the front, which is to be below `end`; otherwise the refusal is `why`, and nothing is taken.
     #[inline(always)]
     #[tactic(auto, unfolding(crate::specs::Varint::number, crate::specs::Varint::after, crate::specs::Varint::judged))]
     pub fn take_below(&mut self, end: u32, why: Refusal) -> Result<u32, Refusal>
         ensures got { IfOk result (λ x. number (number_of why) (λ y. ltb y end) self.old.rest.now ≡ got x self.new.rest.now) }
         ensures refused { IfErr result (λ e. number (number_of why) (λ y. ltb y end) self.old.rest.now ≡ refuse (number_of e)) }
+        ensures kept { OnErr result (self.new.rest.now ≡ self.old.rest.now) }
         ensures below { IfOk result (λ x. x < end) }
     {
-        let x = self.take_number()?;
-        if x < end { Ok(x) } else { Err(why) }
+        let mut ahead = *self;
+        let x = ahead.take_number()?;
+        if x >= end {
+            return Err(why);
+        }
+        *self = ahead;
+        Ok(x)
     }
 }

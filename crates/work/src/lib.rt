@@ -161,6 +161,11 @@ pub fn lent<T: Cell, F: FnOnce(&mut [u8]) -> Result<usize, Refusal>>(
 // What a refusal number counts in the one number of a call.
 const REFUSAL: u32 = 65536;
 
+// The one numbers of a call that is lent too little work, and of one that is lent too short a slip.
+pub const SHORT_WORK: u32 = REFUSAL;
+
+pub const SHORT_SLIP: u32 = 2 * REFUSAL;
+
 // One number for a call: the refusal, and the length of what was written or 1 for yes.
 pub fn one_number(number: u32, length: usize) -> u32
     requires { (number ≤ 27) × (length ≤ 65535) }

@@ -4,42 +4,42 @@ use Rattle.sheet.specs.Lent.{zeros}
 use Rattle.sheet_services.proofs.BehindLaws.{plain_front, plain_taken, led_front, led_refused, none_refused, some_taken}
 use Rattle.sheet_services.proofs.take_services.Goals as goal
 
-pub returns-then-not-leads-clause-got : goal.returns-then-not-leads-clause-got
-returns-then-not-leads-clause-got c = rw c.if-not-leads.true (plain_taken c.args.nodes c.args.bytes.now.rest.now)
+pub returns-then-leading-eq0-clause-got : goal.returns-then-leading-eq0-clause-got
+returns-then-leading-eq0-clause-got c = plain_taken c.args.nodes c.args.bytes.now.rest.now c.args.leading c.if-leading-eq0.true
 
-pub returns-then-not-leads-clause-services_in_front : goal.returns-then-not-leads-clause-services_in_front
+pub returns-then-leading-eq0-clause-services_in_front : goal.returns-then-leading-eq0-clause-services_in_front
 unfolding zeros
-returns-then-not-leads-clause-services_in_front c =
+returns-then-leading-eq0-clause-services_in_front c =
     let size : length (take c.args.nodes c.args.services.now) ≡ c.args.nodes = search rules in
-    rw c.if-not-leads.true (rw (plain_front c.args.nodes c.args.bytes.now.rest.now c.args.services.now, c.fill.ensures.after (λ _ p. p), size) refl)
+    rw (plain_front c.args.nodes c.args.bytes.now.rest.now c.args.leading c.if-leading-eq0.true c.args.services.now, c.fill.ensures.after (λ _ p. p), size) refl
 
 pub returns-in_err-read_all-clause-refused : goal.returns-in_err-read_all-clause-refused
 returns-in_err-read_all-clause-refused c =
     let size : length (take c.args.nodes c.args.services.now) ≡ c.args.nodes = search rules in
-    let stopped = led_refused c.args.nodes c.args.bytes.now.rest.now size c.in_err-read_all.ensures.refused in
-    rw c.if-not-leads.false (search rules)
+    let stopped = led_refused c.args.leading c.args.nodes c.args.bytes.now.rest.now c.if-leading-eq0.false size c.in_err-read_all.ensures.refused in
+    search rules
 
 pub returns-in_err-read_all-clause-services_in_front : goal.returns-in_err-read_all-clause-services_in_front
 returns-in_err-read_all-clause-services_in_front c =
     let size : length (take c.args.nodes c.args.services.now) ≡ c.args.nodes = search rules in
-    rw c.if-not-leads.false (led_front c.args.nodes c.args.bytes.now.rest.now c.args.services.now size c.read_all.ensures.in_front (search rules) c.requires)
+    led_front c.args.leading c.args.nodes c.args.bytes.now.rest.now c.if-leading-eq0.false c.args.services.now size c.read_all.ensures.in_front (search rules) c.requires
 
 pub returns-then-no_service-clause-refused : goal.returns-then-no_service-clause-refused
 returns-then-no_service-clause-refused c =
     let size : length (take c.args.nodes c.args.services.now) ≡ c.args.nodes = search rules in
-    rw c.if-not-leads.false (none_refused c.args.nodes c.args.bytes.now.rest.now size c.in_ok-read_all.ensures.got (sym c.no_service.ensures ∙ c.if-no_service.true))
+    none_refused c.args.leading c.args.nodes c.args.bytes.now.rest.now c.if-leading-eq0.false size c.in_ok-read_all.ensures.got (sym c.no_service.ensures ∙ c.if-no_service.true)
 
 pub returns-then-no_service-clause-services_in_front : goal.returns-then-no_service-clause-services_in_front
 returns-then-no_service-clause-services_in_front c =
     let size : length (take c.args.nodes c.args.services.now) ≡ c.args.nodes = search rules in
-    rw c.if-not-leads.false (led_front c.args.nodes c.args.bytes.now.rest.now c.args.services.now size c.read_all.ensures.in_front (search rules) c.requires)
+    led_front c.args.leading c.args.nodes c.args.bytes.now.rest.now c.if-leading-eq0.false c.args.services.now size c.read_all.ensures.in_front (search rules) c.requires
 
 pub returns-clause-got : goal.returns-clause-got
 returns-clause-got c =
     let size : length (take c.args.nodes c.args.services.now) ≡ c.args.nodes = search rules in
-    rw c.if-not-leads.false (some_taken c.args.nodes c.args.bytes.now.rest.now size c.in_ok-read_all.ensures.got (sym c.no_service.ensures ∙ c.if-no_service.false))
+    some_taken c.args.leading c.args.nodes c.args.bytes.now.rest.now c.if-leading-eq0.false size c.in_ok-read_all.ensures.got (sym c.no_service.ensures ∙ c.if-no_service.false)
 
 pub returns-clause-services_in_front : goal.returns-clause-services_in_front
 returns-clause-services_in_front c =
     let size : length (take c.args.nodes c.args.services.now) ≡ c.args.nodes = search rules in
-    rw c.if-not-leads.false (led_front c.args.nodes c.args.bytes.now.rest.now c.args.services.now size c.read_all.ensures.in_front (search rules) c.requires)
+    led_front c.args.leading c.args.nodes c.args.bytes.now.rest.now c.if-leading-eq0.false c.args.services.now size c.read_all.ensures.in_front (search rules) c.requires
