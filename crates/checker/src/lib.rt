@@ -42,7 +42,7 @@ fn answer_lists(sheet: &Sheet, form: &SlipForm, scratch: &mut [u32]) -> Result<b
         arcs: sheet.arcs,
         marks: &closed,
     };
-    Ok(!item_fits::fits_goals(&item_fits::query_of(sheet), &net, goals, scratch))
+    Ok(!item_fits::fits_goals(&item_fits::sheet_query(sheet), &net, goals, scratch))
 }
 
 // Whether a slip has more goals or reasons than any that is well formed.

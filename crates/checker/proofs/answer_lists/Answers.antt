@@ -41,13 +41,13 @@ fits_goals-requires-clause-goals_and_scratch_fit c =
     let s = c.args.sheet.now in
     let f = c.well_formed-2.ensures (sheet_of s.header s.arcs.now s.marks.now) (items_are s.whole) in
     let fit = (formed_asked (claim_number c.args.form.now.claim) _ _ s.whole (sym f ∙ c.if-not-well_formed.false)).fit _ in
-    rw c.query_of.ensures (fit, c.requires.scratch_long, s.whole.source, s.whole.target)
+    rw c.sheet_query.ensures (fit, c.requires.scratch_long, s.whole.source, s.whole.target)
 
 pub returns-clause-judged : goal.returns-clause-judged
 returns-clause-judged c =
     let s = c.args.sheet.now in
     let S = sheet_of s.header s.arcs.now s.marks.now in
     let f = c.well_formed-2.ensures S (items_are s.whole) in
-    let e = (rw c.query_of.ensures at c.fits_goals.ensures.tells_whether_fits) ∙ clear_fits _ _ _ _ _ c.closing-closed.ensures in
+    let e = (rw c.sheet_query.ensures at c.fits_goals.ensures.tells_whether_fits) ∙ clear_fits _ _ _ _ _ c.closing-closed.ensures in
     of_lists S (claim_number c.args.form.now.claim) c.read-goals.ensures c.read-reasons.ensures
     (answer_judged S _ true c.fits_goals.result (sym f ∙ c.if-not-well_formed.false) (sym c.if-not-kinds_hold.false ∙ c.kinds_hold.ensures) e refl)
