@@ -6,12 +6,10 @@ ghost use Rattle.lists.specs.Lists.{member, every, ascends};
 ghost use Rattle.walks.specs.Graph.{item_count};
 ghost use Rattle.sheet.specs.Sheet.{Sheet as Plan, is_forbidden, required, sheet_of};
 ghost use Rattle.slip_reader.specs.Form.{slip_from};
-ghost use Rattle.slip_reader.specs.Claim.{claim_number};
 ghost use Rattle.check_rules.specs.Check.{goal_count, well_formed, is_goal};
 
 use sheet::Header;
 use sheet_required::whole::Sheet;
-use slip_reader::claim::Claim;
 use walks::GOALS;
 use walks::mark::Mark;
 
@@ -29,15 +27,15 @@ pub fn all_marked(marks: &[Mark], items: &[u32], mark: Mark) -> bool
     items.iter().all(|&item| mark_of(marks, item) == mark)
 }
 
-// Whether a slip with this claim may have so many goals.
+// Whether a slip with this first number, which may be any, may have so many goals.
 #[tactic(auto, unfolding(check_rules::specs::Check::goal_count))]
-fn count_fits(claim: Claim, count: usize) -> bool
-    ensures { result ≡ goal_count (claim_number claim) count }
+fn count_fits(first: u32, count: usize) -> bool
+    ensures { result ≡ goal_count first count }
 {
-    match claim {
-        Claim::NoWay => count == 0,
-        Claim::Apart => 1 <= count && count <= GOALS,
-        Claim::Unmet | Claim::Struck => count == 1,
+    match first {
+        1 => count == 0,
+        3 => 1 <= count && count <= GOALS,
+        _ => count == 1,
     }
 }
 
@@ -50,13 +48,13 @@ fn rising_below(items: &[u32], bound: u32) -> bool
 }
 
 // What 18 asks: known items, goals and reasons strictly ascending, the goal count.
-pub fn well_formed(header: Header, claim: Claim, goals: &[u32], reasons: &[u32]) -> bool
+pub fn well_formed(header: Header, first: u32, goals: &[u32], reasons: &[u32]) -> bool
     requires { (header.nodes ≤ 64) × (header.arcs ≤ 512) }
-    ensures { let s = slip_from (claim_number claim) goals.now reasons.now in
+    ensures { let s = slip_from first goals.now reasons.now in
         ((S : Plan) → item_count S.graph ≡ header.nodes + header.arcs → result ≡ well_formed S s) }
 {
     let items = (header.nodes + header.arcs) as u32;
-    rising_below(goals, items) && rising_below(reasons, items) && count_fits(claim, goals.len())
+    rising_below(goals, items) && rising_below(reasons, items) && count_fits(first, goals.len())
 }
 
 // Whether each of the goals is a required item.
@@ -70,25 +68,25 @@ fn all_required(sheet: &Sheet, goals: &[u32]) -> bool
     lists::all_listed(goals, &items[..count])
 }
 
-// Whether the goals are of the kind that the claim is made of: mandatory, required or open.
+// Whether the goals are as the first number says: mandatory for 2, required for 3, else open.
 #[tactic(auto, unfolding(check_rules::specs::Check::is_goal, sheet::specs::Sheet::is_mandatory, sheet::specs::Sheet::is_open, sheet::specs::Sheet::mark_of))]
-fn goals_hold(sheet: &Sheet, claim: Claim, goals: &[u32]) -> bool
+fn goals_hold(sheet: &Sheet, first: u32, goals: &[u32]) -> bool
     ensures { let s = sheet.now in
-        result ≡ every (is_goal (sheet_of s.header s.arcs.now s.marks.now) (claim_number claim)) goals.now }
+        result ≡ every (is_goal (sheet_of s.header s.arcs.now s.marks.now) first) goals.now }
 {
-    match claim {
-        Claim::Unmet => all_marked(sheet.marks, goals, Mark::MANDATORY),
-        Claim::Apart => all_required(sheet, goals),
-        Claim::NoWay | Claim::Struck => all_marked(sheet.marks, goals, Mark::OPEN),
+    match first {
+        2 => all_marked(sheet.marks, goals, Mark::MANDATORY),
+        3 => all_required(sheet, goals),
+        _ => all_marked(sheet.marks, goals, Mark::OPEN),
     }
 }
 
-// Whether every reason is forbidden on the sheet, and the goals are as the claim says.
+// Whether every reason is forbidden on the sheet, and the goals are as the first number says.
 #[tactic(auto, unfolding(sheet::specs::Sheet::is_forbidden))]
-pub fn kinds_hold(sheet: &Sheet, claim: Claim, goals: &[u32], reasons: &[u32]) -> bool
+pub fn kinds_hold(sheet: &Sheet, first: u32, goals: &[u32], reasons: &[u32]) -> bool
     ensures { let s = sheet.now in
         let S = sheet_of s.header s.arcs.now s.marks.now in
-        result ≡ (every (is_forbidden S) reasons.now && every (is_goal S (claim_number claim)) goals.now) }
+        result ≡ (every (is_forbidden S) reasons.now && every (is_goal S first) goals.now) }
 {
-    all_marked(sheet.marks, reasons, Mark::FORBIDDEN) && goals_hold(sheet, claim, goals)
+    all_marked(sheet.marks, reasons, Mark::FORBIDDEN) && goals_hold(sheet, first, goals)
 }

@@ -24,7 +24,7 @@ module _ (S : Sheet) (s : Slip) where
   unfolding judged_on holds
   answer_judged k f w p q e = rw (w, ← q, e, p, and_assoc)
 
--- the answer speaks of the lists as the slip has them
-pub of_lists : (S : Sheet) (v : ℕ) {xs ys goals reasons : List ℕ} {r : Read Bool} → xs ≡ goals → ys ≡ reasons → judged_on S (slip_from v xs ys) [] ≡ r
-    → judged_on S (slip_from v goals reasons) [] ≡ r
-of_lists S v p q e = rw (← p, ← q) e
+-- the answer speaks of the first number and the lists as the slip has them
+pub of_lists : (S : Sheet) {v w : ℕ} {xs ys goals reasons : List ℕ} {r : Read Bool} → v ≡ w → xs ≡ goals → ys ≡ reasons → judged_on S (slip_from v xs ys) [] ≡ r
+    → judged_on S (slip_from w goals reasons) [] ≡ r
+of_lists S u p q e = rw (← u, ← p, ← q) e

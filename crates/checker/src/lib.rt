@@ -30,10 +30,11 @@ fn answer_lists(sheet: &Sheet, form: &SlipForm, scratch: &mut [u32]) -> Result<b
     let mut reason_list = [0u32; ITEMS];
     let goals = form.goals.read(&mut goal_list);
     let reasons = form.reasons.read(&mut reason_list);
-    if !check_claim::well_formed(sheet.header, form.claim, goals, reasons) {
+    let first = u32::from(form.claim);
+    if !check_claim::well_formed(sheet.header, first, goals, reasons) {
         return Err(Refusal::BadClaim);
     }
-    if !check_claim::kinds_hold(sheet, form.claim, goals, reasons) {
+    if !check_claim::kinds_hold(sheet, first, goals, reasons) {
         return Ok(false);
     }
     let closed = closed_marks::closing(reasons);
@@ -42,7 +43,7 @@ fn answer_lists(sheet: &Sheet, form: &SlipForm, scratch: &mut [u32]) -> Result<b
         arcs: sheet.arcs,
         marks: &closed,
     };
-    Ok(!item_fits::fits_goals(&item_fits::query_of(sheet), &net, goals, scratch))
+    Ok(!item_fits::fits_goals(&item_fits::sheet_query(sheet), &net, goals, scratch))
 }
 
 // Whether a slip has more goals or reasons than any that is well formed.

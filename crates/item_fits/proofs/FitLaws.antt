@@ -56,10 +56,11 @@ module _ {h : Header} {arcs : List Arc} {marks : List ℕ} (W : Whole h arcs mar
     pub untold_past : none ≡ at_most h.limit (plus (there (entry_of (graph_of h.nodes arcs) i)) (own i)) → none ≡ at_most h.limit (through i)
     untold_past e = rw parted (told_left h.limit _ _ e)
 
-  -- with no goal: the way to the target
-  pub target_fits : (x : ℕ) → x ≡ held h.limit (there h.target) → leb x h.limit ≡ fits_sheet (sheet_of h arcs marks) []
+  -- the way to the target that meets the goals, held as a number
+  pub target_fits : (goals : List ℕ) (x : ℕ) → x ≡ held h.limit (least (graph_of h.nodes arcs) (closed_in marks) goals h.source h.target)
+      → leb x h.limit ≡ fits_sheet (sheet_of h arcs marks) goals
   unfolding fits_sheet fits is_forbidden
-  target_fits x e = rw e (held_within h.limit _ (omega (arith, W.limit)))
+  target_fits goals x e = rw e (held_within h.limit _ (omega (arith, W.limit)))
 
   -- the entries that are read
   module _ {to from : List ℕ} (R : Rows h arcs marks to from) where

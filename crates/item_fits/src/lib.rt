@@ -13,21 +13,48 @@ ghost use Rattle.goal_table.specs.Table.{GoalsFit, Rowed};
 ghost use Rattle.pass_rules.specs.Verdict.{fits_sheet};
 ghost use Rattle.sheet.specs.Sheet.{sheet_of};
 ghost use Rattle.item_fits.specs.Rows.{Rows};
+ghost use Rattle.item_fits.specs.Asked.{QueryOf};
 
 use lengths::Query;
 use rows::ROW_LENGTH;
 use rows::cap::Cap;
 use rows::net::Net;
+use sheet::Header;
 use sheet_required::whole::Sheet;
 
-// What a sheet asks of a walk: from its source to its target, within its limit.
-pub fn query_of(sheet: &Sheet) -> Query
+// The numbers of the two rows by which a sheet is judged.
+pub const TWO_ROWS: usize = 2 * ROW_LENGTH;
+
+// What a header asks of a walk in a graph of `nodes` nodes: from `from` to `to`, of length at most `cap`. The cap may be any number.
+#[derive(Clone, Copy, Debug, PartialEq, Eq)]
+pub struct Asked {
+    pub nodes: usize,
+    pub from: usize,
+    pub to: usize,
+    pub cap: u32,
+}
+
+// What a header asks of a walk: from its source to its target, within its limit.
+pub fn query_of(header: Header) -> Asked
+    ensures { QueryOf header result }
+{
+    Asked {
+        nodes: header.nodes,
+        from: header.source,
+        to: header.target,
+        cap: header.limit,
+    }
+}
+
+// The same of a sheet, as the length layer takes it: a sheet's limit is a cap.
+pub fn sheet_query(sheet: &Sheet) -> Query
     ensures { let h = sheet.now.header in result ≡ record { from = h.source; to = h.target; cap = h.limit } }
 {
+    let asked = query_of(sheet.header);
     Query {
-        from: sheet.header.source,
-        to: sheet.header.target,
-        cap: Cap::new(sheet.header.limit),
+        from: asked.from,
+        to: asked.to,
+        cap: Cap::new(asked.cap),
     }
 }
 
@@ -35,9 +62,9 @@ pub fn query_of(sheet: &Sheet) -> Query
 #[derive(Clone, Copy, Debug, PartialEq, Eq)]
 pub struct EndRows<'a> {
     pub sheet: Sheet<'a>,
-    there: [u32; ROW_LENGTH],
-    back: [u32; ROW_LENGTH],
-    ghost filled: { Rows sheet.header sheet.arcs.now sheet.marks.now there back } by { Prim.hlevel props },
+    pub there: [u32; ROW_LENGTH],
+    pub back: [u32; ROW_LENGTH],
+    pub ghost filled: { Rows sheet.header sheet.arcs.now sheet.marks.now there back } by { Prim.hlevel props },
 }
 
 impl<'a> EndRows<'a> {
@@ -46,7 +73,7 @@ impl<'a> EndRows<'a> {
         ensures { result.sheet ≡ sheet.now }
     {
         let net = sheet.net();
-        let query = query_of(sheet);
+        let query = sheet_query(sheet);
         let mut there = [0u32; ROW_LENGTH];
         let mut back = [0u32; ROW_LENGTH];
         row_fill::row_from(&net, query.from, &mut there, query.cap);
@@ -76,7 +103,7 @@ impl<'a> EndRows<'a> {
     {
         let sheet = &self.sheet;
         let nodes = sheet.header.nodes;
-        let cap = query_of(sheet).cap;
+        let cap = sheet_query(sheet).cap;
         let own = goals::own(&sheet.net(), item, cap.length())?;
         let past = goals::sum(self.there[goals::entry(nodes, sheet.arcs, item)], own, cap)?;
         goals::sum(past, self.back[goals::exit(nodes, sheet.arcs, item)], cap)

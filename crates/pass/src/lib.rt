@@ -59,7 +59,7 @@ pub fn list_for_sheet(sheet: &Sheet, goals: &[u32], scratch: &mut [u32], list: &
 {
     if any_forbidden(sheet.marks) {
         return greedy::list_reasons(
-            &item_fits::query_of(sheet),
+            &item_fits::sheet_query(sheet),
             &sheet.net(),
             goals,
             scratch,
@@ -86,7 +86,7 @@ pub fn write_answer(sheet: &Sheet, scratch: &mut [u32], slip: &mut [u8]) -> usiz
     let goals = verdict.goals();
     let mut list = [0u32; ITEMS];
     ready_rows(
-        &item_fits::query_of(sheet),
+        &item_fits::sheet_query(sheet),
         &sheet.net(),
         first,
         goals,

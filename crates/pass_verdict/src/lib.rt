@@ -70,7 +70,7 @@ fn judge_together<'a>(sheet: &Sheet, room: &'a mut [u32], scratch: &mut [u32]) -
 {
     let count = sheet_required::required_items(sheet.header, &sheet.arcs, sheet.marks, room);
     let goals = &room[..count];
-    let query = item_fits::query_of(sheet);
+    let query = item_fits::sheet_query(sheet);
     if count == 0 || item_fits::fits_goals(&query, &sheet.net(), goals, scratch) {
         return Verdict::Stands;
     }

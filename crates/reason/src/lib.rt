@@ -51,7 +51,7 @@ fn explain_item(
     let goals = [item; 1];
     let mut list = [0u32; ITEMS];
     pass::ready_rows(
-        &item_fits::query_of(sheet),
+        &item_fits::sheet_query(sheet),
         &sheet.net(),
         first,
         &goals,

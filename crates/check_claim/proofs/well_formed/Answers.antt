@@ -4,7 +4,6 @@ use mathlib.Core.Path.{◌≡◌, sym, ◌∙◌}
 use mathlib.Core.Bool.{◌&&◌}
 use lib.Dec.{ltb}
 use Rattle.lists.specs.Lists.{every, ascends}
-use Rattle.slip_reader.specs.Claim.{claim_number}
 use Rattle.check_claim.proofs.FormLaws.{formed_chain}
 use Rattle.check_claim.proofs.GoalLaws.{both, first_fails}
 use Rattle.check_claim.proofs.well_formed.Goals as goal
@@ -23,9 +22,9 @@ rise p =
 pub returns-then-rising_below-2 : goal.returns-then-rising_below-2
 returns-then-rising_below-2 c =
     let e = rise (goal.at.returns-then-rising_below-2 c).Joined-rising_below in
-    λ S k. formed_chain S _ (claim_number c.args.claim) c.args.goals.now c.args.reasons.now k (both (sym e ∙ c.if-rising_below-2.true) c.count_fits.ensures)
+    λ S k. formed_chain S _ c.args.first c.args.goals.now c.args.reasons.now k (both (sym e ∙ c.if-rising_below-2.true) c.count_fits.ensures)
 
 pub returns-else-rising_below-2 : goal.returns-else-rising_below-2
 returns-else-rising_below-2 c =
     let e = rise (goal.at.returns-else-rising_below-2 c).Joined-rising_below in
-    λ S k. formed_chain S _ (claim_number c.args.claim) c.args.goals.now c.args.reasons.now k (first_fails _ (sym e ∙ c.if-rising_below-2.false) c.if-rising_below-2.false)
+    λ S k. formed_chain S _ c.args.first c.args.goals.now c.args.reasons.now k (first_fails _ (sym e ∙ c.if-rising_below-2.false) c.if-rising_below-2.false)

@@ -12,7 +12,7 @@ list_reasons-requires c =
     let U = c.requires.blamed.0 in
     let W = U.whole in
     let f = c.any_forbidden.ensures in
-    rw (c.net.ensures, c.query_of.ensures)
+    rw (c.net.ensures, c.sheet_query.ensures)
     (record {
       few_arcs = omega (arith, W.sized.0, W.few);
       goals_fit = (U.fit, omega (arith, W.sized.1, W.proper.few, W.few));
@@ -22,7 +22,7 @@ list_reasons-requires c =
 
 pub returns-then-any_forbidden : goal.returns-then-any_forbidden
 unfolding reasons_for
-returns-then-any_forbidden c = rw (c.net.ensures, c.query_of.ensures) at c.list_reasons.ensures
+returns-then-any_forbidden c = rw (c.net.ensures, c.sheet_query.ensures) at c.list_reasons.ensures
 
 pub returns : goal.returns
 unfolding reasons_for

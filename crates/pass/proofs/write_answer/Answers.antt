@@ -20,7 +20,7 @@ pub ready_rows-requires-clause-goals_and_scratch_fit : goal.ready_rows-requires-
 ready_rows-requires-clause-goals_and_scratch_fit c =
     let W = c.args.sheet.now.whole in
     let J = rw c.of-rows.ensures at c.find_verdict-verdict.ensures in
-    rw (c.net.ensures, c.query_of.ensures, c.goals-goals.ensures)
+    rw (c.net.ensures, c.sheet_query.ensures, c.goals-goals.ensures)
     ((blamed W J (refused_number _ c.in_default.not-Stands)).fit, omega (arith, c.requires.0, c.find_verdict-verdict.auto.scratch), W.source)
 
 pub list_for_sheet-n-requires-clause-blamed : goal.list_for_sheet-n-requires-clause-blamed

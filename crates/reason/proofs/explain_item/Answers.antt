@@ -26,7 +26,7 @@ returns-then-not-is_pruned c =
 pub ready_rows-requires-clause-goals_and_scratch_fit : goal.ready_rows-requires-clause-goals_and_scratch_fit
 ready_rows-requires-clause-goals_and_scratch_fit c =
     let u = unmet (goal.at.ready_rows-requires-clause-goals_and_scratch_fit c).Else-not-is_pruned in
-    rw (c.net.ensures, c.query_of.ensures) (u.fit, omega (arith, c.requires.0, c.is_pruned.auto.scratch), u.whole.source)
+    rw (c.net.ensures, c.sheet_query.ensures) (u.fit, omega (arith, c.requires.0, c.is_pruned.auto.scratch), u.whole.source)
 
 pub list_for_sheet-n-requires-clause-blamed : goal.list_for_sheet-n-requires-clause-blamed
 list_for_sheet-n-requires-clause-blamed c =
