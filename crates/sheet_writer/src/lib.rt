@@ -7,7 +7,7 @@ ghost use Rattle.lists.specs.Lists.{Put};
 ghost use Rattle.varint.specs.Answer.{small};
 ghost use Rattle.varint.specs.Refusal.{number_in, length_in};
 ghost use Rattle.varint.specs.Varint.{write_numbers};
-ghost use Rattle.sheet.specs.Draft.{draft_sheet, draft_page, header_numbers, sheet_numbers, with_services, page_bytes};
+ghost use Rattle.sheet.specs.Draft.{draft_of, draft_sheet, draft_page, header_numbers, sheet_numbers, with_services, page_bytes};
 ghost use Rattle.sheet.specs.Writer.{draft_fault, sheet_written};
 ghost use Rattle.sheet_faults.specs.Drafted.{drafted};
 
@@ -94,7 +94,8 @@ fn put_sheet(draft: &Draft, sheet: &mut [u8]) -> usize
 
 // Writes a sheet, for every draft and slice, and gives its length. Nothing is written before all is judged and measured.
 pub fn write_sheet(draft: &Draft, sheet: &mut [u8]) -> Result<usize, Refusal>
-    ensures { record { number = number_in result; length = length_in result; out = sheet.new } ≡ sheet_written (drafted draft.now) sheet.old }
+    ensures { let d = draft_of draft.now.header draft.now.arcs.now draft.now.marks.now draft.now.services.now in
+        record { number = number_in result; length = length_in result; out = sheet.new } ≡ sheet_written d sheet.old }
 {
     draft.fault()?;
     if !sheet_faults::has_room(sheet, sheet_size(draft)) {
