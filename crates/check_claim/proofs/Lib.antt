@@ -1,2 +1,3 @@
 pub mod FormLaws
 pub mod GoalLaws
+pub mod NumberLaws
