@@ -4,6 +4,7 @@
 #![tactic(auto)]
 
 use program_input::INPUT_BYTES;
+use text_lines::TEXT_BYTES;
 
 fn main(rt: HostRuntime) {
     let mut input = [0u8; INPUT_BYTES];
@@ -11,8 +12,9 @@ fn main(rt: HostRuntime) {
         Ok(read) => read,
         Err(error) => return program_input::say_failed(&rt, "cost: standard input", error),
     };
-    let text = text_cost::report_cost(&input[..read]);
-    if let Err(error) = rt.write_all(text.as_slice()) {
+    let mut text = [0u8; TEXT_BYTES];
+    let length = text_cost::report_cost(&input[..read], &mut text);
+    if let Err(error) = rt.write_all(&text[..length]) {
         program_input::say_failed(&rt, "cost: standard output", error);
     }
 }

@@ -1,7 +1,8 @@
 // What closures cost, for a sheet that was read and a list of closures, and its lines.
 #![tactic(auto)]
 
-ghost use Rattle.std.specs.Prelude.{◌≡◌, [], ◌∷◌, ◌++◌, ◌+◌, ◌≤◌, ◌<◌, length};
+ghost use Rattle.std.specs.Prelude.{◌≡◌, [], ◌∷◌, ◌+◌, ◌≤◌, ◌<◌, length};
+ghost use Rattle.lists.specs.Lists.{Put};
 ghost use Rattle.walks.specs.Flat.{graph_of};
 ghost use Rattle.walks.specs.Graph.{closed_in, least};
 ghost use Rattle.sheet.specs.Sheet.{sheet_of};
@@ -16,7 +17,7 @@ use lengths::Query;
 use rows::cap::Cap;
 use rows::net::Net;
 use sheet_required::whole::Sheet;
-use text_lines::{DifferenceLine, Line, NumberLine, Text};
+use text_lines::{DifferenceLine, Line, NumberLine};
 use walks::mark::Mark;
 
 // A length alone on its line, or `none`.
@@ -24,9 +25,10 @@ use walks::mark::Mark;
 pub struct LengthLine(pub Option<u32>);
 
 impl LengthLine {
-    pub fn put(&self, text: &mut Text)
-        requires { length text.old.items + length (length_line (as_least self.now.0)) ≤ 8192 }
-        ensures { text.new.items ≡ text.old.items ++ length_line (as_least self.now.0) }
+    // Writes the line over the front of `out` and gives its length.
+    pub fn put(&self, out: &mut [u8]) -> usize
+        requires { length (length_line (as_least self.now.0)) ≤ length out.old }
+        ensures { Put (length_line (as_least self.now.0)) out.old out.new result }
     {
         match self.0 {
             None => {
@@ -34,9 +36,9 @@ impl LengthLine {
                     word: b"none",
                     numbers: &[],
                 };
-                none.put(text)
+                none.put(out)
             }
-            Some(length) => NumberLine(length).put(text),
+            Some(length) => NumberLine(length).put(out),
         }
     }
 }
@@ -49,18 +51,19 @@ pub struct SlackLine {
 }
 
 impl SlackLine {
-    pub fn put(&self, text: &mut Text)
-        requires { length text.old.items + length (slack_line self.now.limit (as_least self.now.length)) ≤ 8192 }
-        ensures { text.new.items ≡ text.old.items ++ slack_line self.now.limit (as_least self.now.length) }
+    // Writes the line over the front of `out` and gives its length.
+    pub fn put(&self, out: &mut [u8]) -> usize
+        requires { length (slack_line self.now.limit (as_least self.now.length)) ≤ length out.old }
+        ensures { Put (slack_line self.now.limit (as_least self.now.length)) out.old out.new result }
     {
         match self.length {
-            None => LengthLine(None).put(text),
+            None => LengthLine(None).put(out),
             Some(length) => {
                 let line = DifferenceLine {
                     whole: self.limit,
                     part: length,
                 };
-                line.put(text)
+                line.put(out)
             }
         }
     }
@@ -74,14 +77,16 @@ pub struct Costs<const N: usize> {
 }
 
 impl<const N: usize> Costs<N> {
-    pub fn put(&self, text: &mut Text)
-        requires { length text.old.items + length (costs_text self.now) ≤ 8192 }
-        ensures { text.new.items ≡ text.old.items ++ costs_text self.now }
+    // Writes the lines over the front of `out` and gives their length.
+    pub fn put(&self, out: &mut [u8]) -> usize
+        requires { length (costs_text self.now) ≤ length out.old }
+        ensures { Put (costs_text self.now) out.old out.new result }
     {
-        self.slack.put(text);
+        let mut at = self.slack.put(out);
         for length in self.opened.as_slice() {
-            LengthLine(*length).put(text);
+            at += LengthLine(*length).put(&mut out[at..]);
         }
+        at
     }
 }
 

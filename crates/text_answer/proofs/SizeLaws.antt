@@ -1,6 +1,8 @@
 -- How long the texts are. Assumes nothing.
-use Rattle.std.proofs.Common.{ℕ, ◌≤◌, List, [], ◌∷◌, ◌++◌, length, arith}
+use Rattle.std.proofs.Common.{◌≡◌, sym, ap, ◌∙◌, ℕ, ◌≤◌, List, [], ◌∷◌, ◌++◌, length, take, drop, arith}
 use lib.ListN.{length-append}
+use lib.Seq.{take_at}
+use Rattle.lists.specs.Lists.{front}
 use Rattle.lists.proofs.Pigeonhole.{Below}
 use Rattle.sheet.specs.Slip.{Slip}
 use Rattle.text_lines.specs.Lines.{line}
@@ -23,3 +25,9 @@ blame_size s b c g h =
 pub refused_size : (e : ℕ) → length (refused_text e) ≤ 8192
 unfolding refused_text
 refused_size e = omega (arith, one_size refused_word e)
+
+-- a text in front of `out` is a part of it
+pub within : (bs d out : List ℕ) (r : ℕ) → r ≡ length bs → out ≡ front bs d → (r ≤ length out) × (r ≡ length (take r out))
+within bs d out r e h =
+    let t : take r out ≡ bs = rw h (take_at bs (drop (length bs) d) r (sym e)) in
+    (omega (arith, e, ap length h ∙ length-append bs (drop (length bs) d)), e ∙ ap length (sym t))

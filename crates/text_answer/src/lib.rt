@@ -1,13 +1,14 @@
 // What the pass answers to a sheet, as the program prints it: the lines of a round that stands, of one that is refused, and of a refusal of the sheet.
 #![tactic(auto)]
 
-ghost use Rattle.std.specs.Prelude.{◌≡◌, ◌≤◌, ◌<◌, ◌+◌, ◌++◌, length};
+ghost use Rattle.std.specs.Prelude.{◌≡◌, ◌≤◌, ◌<◌, length};
+ghost use Rattle.lists.specs.Lists.{Put};
 ghost use Rattle.slip_reader.specs.Form.{slip_from};
 ghost use Rattle.text_answer.specs.Report.{report_text};
 ghost use Rattle.text_answer.specs.Text.{newly_forbidden, refused_text, stands_text, blame_text};
 
 use arrayvec::ArrayVec;
-use text_lines::{Line, Text};
+use text_lines::Line;
 use varint::Refusal;
 use walks::mark::Mark;
 use walks::{GOALS, ITEMS};
@@ -17,17 +18,18 @@ use walks::{GOALS, ITEMS};
 pub struct Refused(pub u32);
 
 impl Refused {
+    // Writes the line over the front of `out` and gives its length.
     #[tactic(auto, unfolding(crate::specs::Text::refused_text))]
-    pub fn put(&self, text: &mut Text)
-        requires { length text.old.items + length (refused_text self.now.0) ≤ 8192 }
-        ensures { text.new.items ≡ text.old.items ++ refused_text self.now.0 }
+    pub fn put(&self, out: &mut [u8]) -> usize
+        requires { length (refused_text self.now.0) ≤ length out.old }
+        ensures { Put (refused_text self.now.0) out.old out.new result }
     {
         let number = [self.0];
         let line = Line {
             word: b"refused",
             numbers: &number,
         };
-        line.put(text)
+        line.put(out)
     }
 }
 
@@ -38,20 +40,21 @@ pub struct Stands<'a> {
 }
 
 impl Stands<'_> {
-    pub fn put(&self, text: &mut Text)
-        requires { length text.old.items + length (stands_text self.now.struck.now) ≤ 8192 }
-        ensures { text.new.items ≡ text.old.items ++ stands_text self.now.struck.now }
+    // Writes the lines over the front of `out` and gives their length.
+    pub fn put(&self, out: &mut [u8]) -> usize
+        requires { length (stands_text self.now.struck.now) ≤ length out.old }
+        ensures { Put (stands_text self.now.struck.now) out.old out.new result }
     {
         let verdict = Line {
             word: b"verdict",
             numbers: &[0],
         };
-        verdict.put(text);
         let struck = Line {
             word: b"struck",
             numbers: self.struck,
         };
-        struck.put(text)
+        let at = verdict.put(out);
+        at + struck.put(&mut out[at..])
     }
 }
 
@@ -64,26 +67,27 @@ pub struct Blames<'a> {
 }
 
 impl Blames<'_> {
-    pub fn put(&self, text: &mut Text)
-        requires { let b = self.now in length text.old.items + length (blame_text (slip_from b.verdict b.needs.now b.because.now)) ≤ 8192 }
-        ensures { let b = self.now in text.new.items ≡ text.old.items ++ blame_text (slip_from b.verdict b.needs.now b.because.now) }
+    // Writes the lines over the front of `out` and gives their length.
+    pub fn put(&self, out: &mut [u8]) -> usize
+        requires { let b = self.now in length (blame_text (slip_from b.verdict b.needs.now b.because.now)) ≤ length out.old }
+        ensures { let b = self.now in Put (blame_text (slip_from b.verdict b.needs.now b.because.now)) out.old out.new result }
     {
         let first = [self.verdict];
         let verdict = Line {
             word: b"verdict",
             numbers: &first,
         };
-        verdict.put(text);
         let needs = Line {
             word: b"needs",
             numbers: self.needs,
         };
-        needs.put(text);
         let because = Line {
             word: b"because",
             numbers: self.because,
         };
-        because.put(text)
+        let at = verdict.put(out);
+        let end = at + needs.put(&mut out[at..]);
+        end + because.put(&mut out[end..])
     }
 }
 
@@ -105,12 +109,13 @@ pub enum Report {
 }
 
 impl Report {
-    pub fn put(&self, text: &mut Text)
-        requires { length text.old.items + length (report_text self.now) ≤ 8192 }
-        ensures { text.new.items ≡ text.old.items ++ report_text self.now }
+    // Writes the lines over the front of `out` and gives their length.
+    pub fn put(&self, out: &mut [u8]) -> usize
+        requires { length (report_text self.now) ≤ length out.old }
+        ensures { Put (report_text self.now) out.old out.new result }
     {
         match self {
-            Report::Stands { struck } => Stands { struck }.put(text),
+            Report::Stands { struck } => Stands { struck }.put(out),
             Report::Blames {
                 verdict,
                 needs,
@@ -121,9 +126,9 @@ impl Report {
                     needs,
                     because,
                 };
-                blames.put(text)
+                blames.put(out)
             }
-            Report::Refuses(why) => Refused(u32::from(*why)).put(text),
+            Report::Refuses(why) => Refused(u32::from(*why)).put(out),
         }
     }
 }

@@ -1,7 +1,8 @@
 // What the tool prints for an item number and a sheet.
 #![tactic(auto)]
 
-ghost use Rattle.std.specs.Prelude.{◌≡◌, [], ◌∷◌, ◌++◌, ◌+◌, ◌≤◌, ◌<◌, length};
+ghost use Rattle.std.specs.Prelude.{◌≡◌, [], ◌∷◌, ◌+◌, ◌≤◌, ◌<◌, length, take};
+ghost use Rattle.lists.specs.Lists.{Put};
 ghost use Rattle.sheet.specs.Answer.{finished, answer_of};
 ghost use Rattle.sheet.specs.Sheet.{sheet_of};
 ghost use Rattle.sheet.specs.Slip.{slip_bytes};
@@ -14,7 +15,6 @@ use cost_lines::Costs;
 use sheet_reader::page::Page;
 use sheet_required::whole::Sheet;
 use text_answer::Refused;
-use text_lines::Text;
 use varint::{Bytes, Refusal};
 use walks::ITEMS;
 
@@ -26,13 +26,14 @@ pub enum Told {
 }
 
 impl Told {
-    pub fn put(&self, text: &mut Text)
-        requires { length text.old.items + length (told_text self.now) ≤ 8192 }
-        ensures { text.new.items ≡ text.old.items ++ told_text self.now }
+    // Writes the lines over the front of `out` and gives their length.
+    pub fn put(&self, out: &mut [u8]) -> usize
+        requires { length (told_text self.now) ≤ length out.old }
+        ensures { Put (told_text self.now) out.old out.new result }
     {
         match self {
-            Told::Costs(costs) => costs.put(text),
-            Told::Refuses(why) => Refused(u32::from(*why)).put(text),
+            Told::Costs(costs) => costs.put(out),
+            Told::Refuses(why) => Refused(u32::from(*why)).put(out),
         }
     }
 }
@@ -91,12 +92,12 @@ pub fn tell_cost(input: &[u8]) -> Told
     }
 }
 
-// Reads an item number and the sheet behind it, and gives the text of what the closures cost.
-pub fn report_cost(input: &[u8]) -> Text
-    ensures { result.items ≡ cost_text input.now }
+// Reads an item number and the sheet behind it, writes what the closures cost over the front of `out` and gives the text's length. The last clause follows
+// from the first; it lets a caller take that part of `out` with no proof of its own.
+pub fn report_cost(input: &[u8], out: &mut [u8]) -> usize
+    requires { 8192 ≤ length out.old }
+    ensures text_in_front { Put (cost_text input.now) out.old out.new result }
+    ensures length_inside { (result ≤ length out.new) × (result ≡ length (take result out.new)) }
 {
-    let told = tell_cost(input);
-    let mut text = Text::new();
-    told.put(&mut text);
-    text
+    tell_cost(input).put(out)
 }

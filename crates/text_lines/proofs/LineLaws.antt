@@ -1,5 +1,5 @@
--- Laws of lines: a difference as a signed number, and how long a line is. Assumes nothing.
-use Rattle.std.proofs.Common.{◌≡◌, refl, sym, ap, ◌∙◌, append_assoc, ℕ, zero, suc, ◌+◌, ◌-◌, ◌*◌, ◌/◌, ◌%◌, ◌^◌, ◌≤◌, ◌<◌, List, [], ◌∷◌, ◌++◌, length, Bool, true, false, pos, ◌-ℤ◌, arith}
+-- Laws of lines: a difference as a signed number, how long a line is, and rows as written number by number. Assumes nothing.
+use Rattle.std.proofs.Common.{◌≡◌, refl, sym, ap, ◌∙◌, ℕ, zero, suc, ◌+◌, ◌-◌, ◌*◌, ◌/◌, ◌%◌, ◌^◌, ◌≤◌, ◌<◌, List, [], ◌∷◌, ◌++◌, length, Bool, true, false, pos, ◌-ℤ◌, arith}
 use Rattle.std.specs.Prelude.{leb, negsuc, if◌then◌else◌, ◌==◌}
 use Rattle.lists.specs.Lists.{pick}
 use Rattle.std.proofs.lemmas.Fmt.{length-decimal-le}
@@ -8,7 +8,8 @@ use Rattle.std.specs.Fmt.{decimal, digits, digits_onto, digit_glyph, signed_deci
 use borrow.Author.Tests.{le-leb, lt-leb, leb-true, leb-false}
 use lib.ListN.{length-append}
 use Rattle.lists.proofs.Pigeonhole.{Below}
-use Rattle.text_lines.specs.Lines.{row, line, number_line, difference_line, lines}
+use Rattle.lists.proofs.RowLaws.{Rows}
+use Rattle.text_lines.specs.Lines.{spaced, row, line, number_line, difference_line, lines}
 
 -- a difference that is not negative, and one that is
 pub difference_low : (k a : ℕ) → a ≤ k → difference_line k a ≡ number_line (k - a)
@@ -84,19 +85,6 @@ lines_size f m h (x ∷ xs) = simp length-append (omega (arith, h x, lines_size 
 pub line_length : (word xs : List ℕ) → length (line word xs) ≡ length word + length (row xs) + 1
 line_length word xs = simp length-append (omega arith)
 
--- a text in two parts: the room of the first, that of the second behind it, and both
-pub first_room : (old a b : List ℕ) → length old + length (a ++ b) ≤ 8192 → length old + length a ≤ 8192
-first_room old a b r = omega (arith, r, length-append a b)
-
-pub second_room : (items old a b : List ℕ) → items ≡ old ++ a → length old + length (a ++ b) ≤ 8192 → length items + length b ≤ 8192
-second_room items old a b e r = omega (arith, r, length-append a b, ap length e ∙ length-append old a)
-
-pub both_put : (new items old a b : List ℕ) → items ≡ old ++ a → new ≡ items ++ b → new ≡ old ++ (a ++ b)
-both_put new items old a b e q = q ∙ ap (λ l. l ++ b) e ∙ append_assoc old a b
-
--- the same of a text that is equal to another
-pub room_as : (old a b : List ℕ) → a ≡ b → length old + length b ≤ 8192 → length old + length a ≤ 8192
-room_as old a b e r = omega (arith, r, ap length e)
-
-pub put_as : (new old a b : List ℕ) → a ≡ b → new ≡ old ++ a → new ≡ old ++ b
-put_as new old a b e q = q ∙ ap (λ l. old ++ l) e
+-- a row is written number by number, each behind its space
+pub spaced_rows : Rows spaced row
+spaced_rows = record { empty = refl; first = λ x xs. refl }

@@ -1,36 +1,44 @@
-// Lines of text, added to a text: a word and decimal numbers behind it, or a number alone.
+// Lines of text, written over the front of a lent slice: a word and decimal numbers behind it, or a number alone.
 #![tactic(auto)]
 
-ghost use Rattle.std.specs.Prelude.{◌≡◌, ◌++◌, ◌+◌, ◌≤◌, length, decimal};
-ghost use Rattle.text_lines.specs.Lines.{line, number_line, difference_line};
-
-use arrayvec::ArrayVec;
+ghost use Rattle.std.specs.Prelude.{◌≤◌, length, decimal};
+ghost use Rattle.lists.specs.Lists.{Put};
+ghost use Rattle.text_lines.specs.Lines.{spaced, row, line, number_line, difference_line};
 
 // The most bytes that a program prints.
 pub const TEXT_BYTES: usize = 8192;
 
-// A text as far as it is written. A value adds its own text to it and cannot fail: a `Display` may answer an error, and promises its text only where it
-// answers none.
-pub type Text = ArrayVec<u8, TEXT_BYTES>;
-
-// Adds bytes.
-fn add(text: &mut Text, bytes: &[u8])
-    requires { length text.old.items + length bytes.now ≤ 8192 }
-    ensures { text.new.items ≡ text.old.items ++ bytes.now }
-{
-    let _ = text.try_extend_from_slice(bytes);
-}
-
-// Adds a number in decimal.
-fn add_number(text: &mut Text, number: u32)
-    requires { length text.old.items + length (decimal number) ≤ 8192 }
-    ensures { text.new.items ≡ text.old.items ++ decimal number }
+// Writes the number in decimal and gives the count of bytes.
+fn put_decimal(out: &mut [u8], number: u32) -> usize
+    requires { length (decimal number) ≤ length out.old }
+    ensures { Put (decimal number) out.old out.new result }
 {
     let mut digits = itoa::Buffer::new();
-    add(text, digits.format(number).as_bytes());
+    numbers::put_bytes(out, digits.format(number).as_bytes())
 }
 
-// A word, and numbers each behind a space.
+// Writes a space and the number.
+fn put_spaced(out: &mut [u8], number: u32) -> usize
+    requires { length (spaced number) ≤ length out.old }
+    ensures { Put (spaced number) out.old out.new result }
+{
+    out[0] = b' ';
+    1 + put_decimal(&mut out[1..], number)
+}
+
+// Writes the numbers, each behind a space.
+fn put_row(out: &mut [u8], numbers: &[u32]) -> usize
+    requires { length (row numbers.now) ≤ length out.old }
+    ensures { Put (row numbers.now) out.old out.new result }
+{
+    let mut at: usize = 0;
+    for number in numbers {
+        at += put_spaced(&mut out[at..], *number);
+    }
+    at
+}
+
+// A word, and numbers each behind a space. It writes itself and cannot fail: a `Display` may answer an error, and promises its text only where it answers none.
 #[derive(Clone, Copy, Debug, PartialEq, Eq)]
 pub struct Line<'a> {
     pub word: &'a [u8],
@@ -38,16 +46,15 @@ pub struct Line<'a> {
 }
 
 impl Line<'_> {
-    pub fn put(&self, text: &mut Text)
-        requires { length text.old.items + length (line self.now.word.now self.now.numbers.now) ≤ 8192 }
-        ensures { text.new.items ≡ text.old.items ++ line self.now.word.now self.now.numbers.now }
+    // Writes the line over the front of `out` and gives its length.
+    pub fn put(&self, out: &mut [u8]) -> usize
+        requires { length (line self.now.word.now self.now.numbers.now) ≤ length out.old }
+        ensures { Put (line self.now.word.now self.now.numbers.now) out.old out.new result }
     {
-        add(text, self.word);
-        for number in self.numbers {
-            add(text, b" ");
-            add_number(text, *number);
-        }
-        add(text, b"\n");
+        let at = numbers::put_bytes(out, self.word);
+        let end = at + put_row(&mut out[at..], self.numbers);
+        out[end] = b'\n';
+        end + 1
     }
 }
 
@@ -56,12 +63,14 @@ impl Line<'_> {
 pub struct NumberLine(pub u32);
 
 impl NumberLine {
-    pub fn put(&self, lines: &mut Text)
-        requires { length lines.old.items + length (number_line self.now.0) ≤ 8192 }
-        ensures { lines.new.items ≡ lines.old.items ++ number_line self.now.0 }
+    // Writes the line over the front of `out` and gives its length.
+    pub fn put(&self, out: &mut [u8]) -> usize
+        requires { length (number_line self.now.0) ≤ length out.old }
+        ensures { Put (number_line self.now.0) out.old out.new result }
     {
-        add_number(lines, self.0);
-        add(lines, b"\n");
+        let at = put_decimal(out, self.0);
+        out[at] = b'\n';
+        at + 1
     }
 }
 
@@ -73,14 +82,15 @@ pub struct DifferenceLine {
 }
 
 impl DifferenceLine {
-    pub fn put(&self, text: &mut Text)
-        requires { length text.old.items + length (difference_line self.now.whole self.now.part) ≤ 8192 }
-        ensures { text.new.items ≡ text.old.items ++ difference_line self.now.whole self.now.part }
+    // Writes the line over the front of `out` and gives its length.
+    pub fn put(&self, out: &mut [u8]) -> usize
+        requires { length (difference_line self.now.whole self.now.part) ≤ length out.old }
+        ensures { Put (difference_line self.now.whole self.now.part) out.old out.new result }
     {
         if self.part <= self.whole {
-            return NumberLine(self.whole - self.part).put(text);
+            return NumberLine(self.whole - self.part).put(out);
         }
-        add(text, b"-");
-        NumberLine(self.part - self.whole).put(text)
+        out[0] = b'-';
+        1 + NumberLine(self.part - self.whole).put(&mut out[1..])
     }
 }

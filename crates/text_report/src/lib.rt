@@ -1,7 +1,8 @@
 // What the program prints for a sheet.
 #![tactic(auto)]
 
-ghost use Rattle.std.specs.Prelude.{◌≡◌, ◌≤◌, ◌<◌, [], List, ℕ, length, All};
+ghost use Rattle.std.specs.Prelude.{◌≡◌, ◌≤◌, ◌<◌, [], List, ℕ, length, take, All};
+ghost use Rattle.lists.specs.Lists.{front};
 ghost use Rattle.sheet.specs.Answer.{finished};
 ghost use Rattle.sheet.specs.Slip.{read_slip};
 ghost use Rattle.slip_reader.specs.Form.{numbers_in};
@@ -13,7 +14,6 @@ use arrayvec::ArrayVec;
 use sheet_reader::page::Page;
 use slip_reader::NumberList;
 use text_answer::Report;
-use text_lines::Text;
 
 // The numbers of a slip's list.
 fn listed<const N: usize>(list: &NumberList) -> ArrayVec<u32, N>
@@ -92,13 +92,14 @@ pub fn tell(sheet: &[u8], work: &mut [u32]) -> Report
     }
 }
 
-// Runs the pass on a sheet and gives the text of what it answers.
-pub fn report(sheet: &[u8], work: &mut [u32]) -> Text
-    ensures text_of_sheet { result.items ≡ text sheet.now (answer_to sheet.now work.old) }
+// Runs the pass on a sheet, writes the text of what it answers over the front of `out` and gives its length. The last clause follows from the first two; it
+// lets a caller take that part of `out` with no proof of its own.
+pub fn report(sheet: &[u8], work: &mut [u32], out: &mut [u8]) -> usize
+    requires { 8192 ≤ length out.old }
+    ensures text_length { result ≡ length (text sheet.now (answer_to sheet.now work.old)) }
+    ensures text_in_front { out.new ≡ front (text sheet.now (answer_to sheet.now work.old)) out.old }
     ensures work_as_outcome { work.new ≡ (outcome (answer_to sheet.now work.old) work.old []).work }
+    ensures length_inside { (result ≤ length out.new) × (result ≡ length (take result out.new)) }
 {
-    let told = tell(sheet, work);
-    let mut text = Text::new();
-    told.put(&mut text);
-    text
+    tell(sheet, work).put(out)
 }

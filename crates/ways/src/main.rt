@@ -3,6 +3,7 @@
 #![tactic(auto)]
 
 use program_input::INPUT_BYTES;
+use text_lines::TEXT_BYTES;
 use work::WORK_NUMBERS;
 
 fn main(rt: HostRuntime) {
@@ -12,8 +13,9 @@ fn main(rt: HostRuntime) {
         Err(error) => return program_input::say_failed(&rt, "ways: standard input", error),
     };
     let mut work = [0u32; WORK_NUMBERS];
-    let text = text_report::report(&input[..read], &mut work);
-    if let Err(error) = rt.write_all(text.as_slice()) {
+    let mut text = [0u8; TEXT_BYTES];
+    let length = text_report::report(&input[..read], &mut work, &mut text);
+    if let Err(error) = rt.write_all(&text[..length]) {
         program_input::say_failed(&rt, "ways: standard output", error);
     }
 }

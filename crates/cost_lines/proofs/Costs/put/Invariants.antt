@@ -1,6 +1,7 @@
--- What is written before each line: the slack, and the lines before it.
-use Rattle.std.proofs.Common.{◌≡◌, ◌++◌, take}
+-- What stands in front before each line: the slack, and the lines before it.
+use Rattle.std.proofs.Common.{◌++◌, take}
 use Rattle.std.specs.List.{flat_map}
+use Rattle.lists.specs.Lists.{Put}
 use Rattle.cost_rules.specs.Cost.{slack_line}
 use Rattle.lengths.specs.Told.{as_least}
 use Rattle.cost_lines.specs.Ask.{line_of}
@@ -8,4 +9,4 @@ use Rattle.cost_lines.proofs.Costs.put.Given as goal
 
 abbrev pub invariant-loop-length : goal.invariant-loop-length
 invariant-loop-length g l =
-    l.text.items ≡ l.fn.text.items ++ (slack_line l.self.slack.limit (as_least l.self.slack.length) ++ flat_map line_of (take l.length-index l.self.opened.items))
+    Put (slack_line l.self.slack.limit (as_least l.self.slack.length) ++ flat_map line_of (take l.length-index l.self.opened.items)) l.fn.out l.out l.at

@@ -1,18 +1,33 @@
--- A number and the space before it have room, since the whole line has.
-use Rattle.std.proofs.Common.{◌≡◌, ℕ, ◌+◌, ◌≤◌, ◌<◌, List, ◌++◌, length, decimal, take, get_or, arith, length-append}
-use Rattle.std.proofs.lemmas.List.Folds.{length-flat_map-take}
-use Rattle.text_lines.specs.Lines.{spaced, row, line}
-use Rattle.text_lines.proofs.LineLaws.{line_length}
+-- `Line::put` writes the word, the numbers behind it and the line's end.
+use Rattle.std.proofs.Common.{ℕ, ◌≤◌, List, [], ◌∷◌, ◌++◌, length, arith}
+use Rattle.lists.proofs.FrontLaws.{Room, first_fits, room_before, put_within, put_room, put_end, put_on_lem, byte_within, put_byte}
+use Rattle.text_lines.specs.Lines.{row, line}
 use Rattle.text_lines.proofs.Line.put.Goals as goal
 
--- what stands before a number, the space and the number
-room : (items old word xs : List ℕ) (i : ℕ) → items ≡ old ++ (word ++ row (take i xs)) → i < length xs → length old + length (line word xs) ≤ 8192
-    → length items + (1 + length (decimal (get_or xs i 0))) ≤ 8192
-room items old word xs i e h r =
-    rw e (simp length-append (omega (arith, line_length word xs, length-flat_map-take spaced xs i 0 h)))
+module _ (word xs out : List ℕ) (fits : length (line word xs) ≤ length out) where
+  end-room : Room (word ++ row xs) (10 ∷ []) out
+  end-room = record { fits = fits }
 
-pub add-requires-in-loop-number : goal.add-requires-in-loop-number
-add-requires-in-loop-number c = omega (arith, room _ _ _ _ _ c.loop-number.invariant c.loop-number-test.true c.requires)
+  row-room : Room word (row xs) out
+  row-room = room_before end-room
 
-pub add_number-requires : goal.add_number-requires
-add_number-requires c = rw c.add-in-loop-number.ensures (simp length-append (omega (arith, room _ _ _ _ _ c.loop-number.invariant c.loop-number-test.true c.requires)))
+pub put_bytes-at-requires : goal.put_bytes-at-requires
+put_bytes-at-requires c = first_fits (row-room _ _ _ c.requires)
+
+pub slice_bounds-put_row-count : goal.slice_bounds-put_row-count
+slice_bounds-put_row-count c = put_within (row-room _ _ _ c.requires) c.put_bytes-at.ensures
+
+pub put_row-requires : goal.put_row-requires
+put_row-requires c = put_room (row-room _ _ _ c.requires) c.put_bytes-at.ensures
+
+pub overflow_add-end : goal.overflow_add-end
+overflow_add-end c = omega (arith, put_end (row-room _ _ _ c.requires) c.put_bytes-at.ensures c.put_row.ensures)
+
+pub bounds-out-end : goal.bounds-out-end
+bounds-out-end c = omega (arith, byte_within (end-room _ _ _ c.requires) (put_on_lem (row-room _ _ _ c.requires) c.put_bytes-at.ensures c.put_row.ensures))
+
+pub overflow_add-result : goal.overflow_add-result
+overflow_add-result c = omega (arith, byte_within (end-room _ _ _ c.requires) (put_on_lem (row-room _ _ _ c.requires) c.put_bytes-at.ensures c.put_row.ensures))
+
+pub returns : goal.returns
+returns c = put_byte (end-room _ _ _ c.requires) (put_on_lem (row-room _ _ _ c.requires) c.put_bytes-at.ensures c.put_row.ensures)
