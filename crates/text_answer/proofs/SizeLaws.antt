@@ -1,4 +1,4 @@
--- How long the texts are. Assumes nothing.
+-- How long the texts are, and a text in front as a part of what it was written over. Assumes nothing.
 use Rattle.std.proofs.Common.{◌≡◌, sym, ap, ◌∙◌, ℕ, ◌≤◌, List, [], ◌∷◌, ◌++◌, length, take, drop, arith}
 use lib.ListN.{length-append}
 use lib.Seq.{take_at}

@@ -1,12 +1,13 @@
--- Laws of lines: a difference as a signed number, how long a line is, and rows as written number by number. Assumes nothing.
-use Rattle.std.proofs.Common.{◌≡◌, refl, sym, ap, ◌∙◌, ℕ, zero, suc, ◌+◌, ◌-◌, ◌*◌, ◌/◌, ◌%◌, ◌^◌, ◌≤◌, ◌<◌, List, [], ◌∷◌, ◌++◌, length, Bool, true, false, pos, ◌-ℤ◌, arith}
+-- Laws of lines: a difference as a signed number, how long a line is, rows as written number by number, and what stands behind a byte. Assumes nothing.
+use Rattle.std.proofs.Common.{◌≡◌, refl, sym, ap, ◌∙◌, ℕ, zero, suc, ◌+◌, ◌-◌, ◌*◌, ◌/◌, ◌%◌, ◌^◌, ◌≤◌, ◌<◌, List, [], ◌∷◌, ◌++◌, length, set, Bool, true, false, pos, ◌-ℤ◌, arith}
 use Rattle.std.specs.Prelude.{leb, negsuc, if◌then◌else◌, ◌==◌}
-use Rattle.lists.specs.Lists.{pick}
+use Rattle.lists.specs.Lists.{pick, Put}
 use Rattle.std.proofs.lemmas.Fmt.{length-decimal-le}
 use Rattle.std.proofs.lemmas.Int.{ints}
 use Rattle.std.specs.Fmt.{decimal, digits, digits_onto, digit_glyph, signed_decimal}
 use borrow.Author.Tests.{le-leb, lt-leb, leb-true, leb-false}
 use lib.ListN.{length-append}
+use Rattle.lists.proofs.FrontLaws.{Room, first_fits, put_none, put_byte}
 use Rattle.lists.proofs.Pigeonhole.{Below}
 use Rattle.lists.proofs.RowLaws.{Rows}
 use Rattle.text_lines.specs.Lines.{spaced, row, line, number_line, difference_line, lines}
@@ -88,3 +89,14 @@ line_length word xs = simp length-append (omega arith)
 -- a row is written number by number, each behind its space
 pub spaced_rows : Rows spaced row
 spaced_rows = record { empty = refl; first = λ x xs. refl }
+
+-- A byte in front, and the room for a text behind it. Neither goes by which byte it is.
+module _ (x : ℕ) (xs out : List ℕ) (fits : length (x ∷ xs) ≤ length out) where
+  pub behind_byte : Room (x ∷ []) xs out
+  behind_byte = record { fits = fits }
+
+  pub byte_room : Room [] (x ∷ []) out
+  byte_room = record { fits = first_fits behind_byte }
+
+  pub byte_put : Put (x ∷ []) out (set out 0 x) 1
+  byte_put = put_byte byte_room (put_none out)
