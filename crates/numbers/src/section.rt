@@ -12,11 +12,22 @@ pub trait Kind {
 
     ghost reads: { Self → List ℕ → Read Self.Value };
 
-    // Takes the value at the front; where it is refused, nothing.
+    // Takes the value at the front. Where it is refused, whatever was looked at may be taken.
     fn take(&self, bytes: &mut Bytes) -> Result<Self::Value, Refusal>
         ensures got { IfOk result (λ x. reads self.now bytes.old.rest.now ≡ got x bytes.new.rest.now) }
+        ensures refused { IfErr result (λ why. reads self.now bytes.old.rest.now ≡ refuse (number_of why)) };
+
+    // The same, and where the value is refused, nothing is taken.
+    fn attempt(&self, bytes: &mut Bytes) -> Result<Self::Value, Refusal>
+        ensures got { IfOk result (λ x. reads self.now bytes.old.rest.now ≡ got x bytes.new.rest.now) }
         ensures refused { IfErr result (λ why. reads self.now bytes.old.rest.now ≡ refuse (number_of why)) }
-        ensures kept { OnErr result (bytes.new.rest.now ≡ bytes.old.rest.now) };
+        ensures kept { OnErr result (bytes.new.rest.now ≡ bytes.old.rest.now) }
+    {
+        let mut ahead = *bytes;
+        let value = self.take(&mut ahead)?;
+        *bytes = ahead;
+        Ok(value)
+    }
 }
 
 // Numbers as they are.
@@ -28,7 +39,11 @@ impl Kind for Plain {
 
     ghost reads = { λ kind bs. read_number bs };
 
-    fn take(&self, bytes: &mut Bytes) -> Result<u32, Refusal> {
+    fn take(&self, bytes: &mut Bytes) -> Result<u32, Refusal>
+        ensures got { IfOk result (λ x. read_number bytes.old.rest.now ≡ got x bytes.new.rest.now) }
+        ensures refused { IfErr result (λ why. read_number bytes.old.rest.now ≡ refuse (number_of why)) }
+        ensures kept { OnErr result (bytes.new.rest.now ≡ bytes.old.rest.now) }
+    {
         bytes.take_number()
     }
 }
@@ -62,3 +77,6 @@ pub fn skip_numbers(bytes: &mut Bytes, count: usize) -> Result<(), Refusal>
     *bytes = ahead;
     Ok(())
 }
+
+#[cfg(test)]
+mod tests;

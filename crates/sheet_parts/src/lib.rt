@@ -61,7 +61,11 @@ impl Kind for Arcs {
 
     ghost reads = { λ kind bs. read_arc kind.nodes bs };
 
-    fn take(&self, bytes: &mut Bytes) -> Result<Arc, Refusal> {
+    fn take(&self, bytes: &mut Bytes) -> Result<Arc, Refusal>
+        ensures got { IfOk result (λ x. read_arc self.now.nodes bytes.old.rest.now ≡ got x bytes.new.rest.now) }
+        ensures refused { IfErr result (λ why. read_arc self.now.nodes bytes.old.rest.now ≡ refuse (number_of why)) }
+        ensures kept { OnErr result (bytes.new.rest.now ≡ bytes.old.rest.now) }
+    {
         let mut ahead = *bytes;
         let tail = ahead.take_below(self.nodes, Refusal::ArcEnd)?;
         let head = ahead.take_below(self.nodes, Refusal::ArcEnd)?;

@@ -3,6 +3,9 @@
 
 #![tactic(auto)]
 
+ghost use Rattle.std.specs.Prelude.{◌≡◌, IfOk, IfErr, OnErr};
+ghost use Rattle.varint.specs.Varint.{got, refuse};
+ghost use Rattle.varint.specs.Refusal.{number_of};
 ghost use Rattle.sheet.specs.Reader.{read_mark, read_service};
 
 use numbers::section::Kind;
@@ -22,7 +25,11 @@ impl Kind for Marks {
     ghost reads = { λ kind bs. read_mark bs };
 
     #[tactic(auto, using(crate::proofs::ReadLaws::mark_number))]
-    fn take(&self, bytes: &mut Bytes) -> Result<Mark, Refusal> {
+    fn take(&self, bytes: &mut Bytes) -> Result<Mark, Refusal>
+        ensures got { IfOk result (λ x. read_mark bytes.old.rest.now ≡ got x bytes.new.rest.now) }
+        ensures refused { IfErr result (λ why. read_mark bytes.old.rest.now ≡ refuse (number_of why)) }
+        ensures kept { OnErr result (bytes.new.rest.now ≡ bytes.old.rest.now) }
+    {
         let mark = bytes.take_below(MARKS_END, Refusal::Mark)?;
         Ok(Mark::from(mark as u8))
     }
@@ -38,7 +45,11 @@ impl Kind for Services {
     ghost reads = { λ kind bs. read_service bs };
 
     #[tactic(auto, using(crate::proofs::ReadLaws::service_number))]
-    fn take(&self, bytes: &mut Bytes) -> Result<u32, Refusal> {
+    fn take(&self, bytes: &mut Bytes) -> Result<u32, Refusal>
+        ensures got { IfOk result (λ x. read_service bytes.old.rest.now ≡ got x bytes.new.rest.now) }
+        ensures refused { IfErr result (λ why. read_service bytes.old.rest.now ≡ refuse (number_of why)) }
+        ensures kept { OnErr result (bytes.new.rest.now ≡ bytes.old.rest.now) }
+    {
         bytes.take_below(SERVICE_END, Refusal::Mark)
     }
 }
