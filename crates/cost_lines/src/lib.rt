@@ -12,6 +12,8 @@ ghost use Rattle.lengths.specs.Told.{as_least};
 ghost use Rattle.cost_lines.specs.Ask.{line_of};
 ghost use Rattle.cost_lines.specs.Told.{costs_text};
 
+mod display;
+
 use arrayvec::ArrayVec;
 use lengths::Query;
 use rows::cap::Cap;

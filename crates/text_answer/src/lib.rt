@@ -7,6 +7,8 @@ ghost use Rattle.slip_reader.specs.Form.{slip_from};
 ghost use Rattle.text_answer.specs.Report.{report_text};
 ghost use Rattle.text_answer.specs.Text.{newly_forbidden, refused_text, stands_text, blame_text};
 
+mod display;
+
 use arrayvec::ArrayVec;
 use text_lines::Line;
 use varint::Refusal;
@@ -135,7 +137,7 @@ impl Report {
 
 // The items newly forbidden, ascending: open on the sheet and shut by the slip.
 #[tactic(auto, using(crate::proofs::ListLaws::listing))]
-pub fn newly_forbidden<const N: usize>(marks: &[Mark], slip: &[u8]) -> ArrayVec<usize, N>
+pub fn newly_forbidden_indices<const N: usize>(marks: &[Mark], slip: &[u8]) -> ArrayVec<usize, N>
     requires { (length marks.now < length slip.now) × (length marks.now ≤ N) }
     ensures { result.items ≡ newly_forbidden marks.now slip.now }
 {
@@ -146,4 +148,41 @@ pub fn newly_forbidden<const N: usize>(marks: &[Mark], slip: &[u8]) -> ArrayVec<
         }
     }
     list
+}
+
+// The same as 32-bit numbers, of at most 2^32 marks. It does not go by the indices: a list of them takes twice the bytes, so that it asks for a smaller `N`.
+#[tactic(auto, using(crate::proofs::ListLaws::listing))]
+pub fn newly_forbidden<const N: usize>(marks: &[Mark], slip: &[u8]) -> ArrayVec<u32, N>
+    requires { (length marks.now < length slip.now) × (length marks.now ≤ N) × (length marks.now ≤ 4294967296) }
+    ensures { result.items ≡ newly_forbidden marks.now slip.now }
+{
+    let mut list = ArrayVec::new();
+    for item in 0..marks.len() {
+        if marks[item].is_open() && Mark::from(slip[item + 1]).is_forbidden() {
+            list.push(item as u32);
+        }
+    }
+    list
+}
+
+#[cfg(test)]
+mod tests {
+    use super::*;
+
+    // Of five items the second and the fifth are shut by the slip alone; the third was shut before, and the fourth has to be visited.
+    #[test]
+    fn items_newly_forbidden(rt: HostRuntime) {
+        let marks = [
+            Mark::OPEN,
+            Mark::OPEN,
+            Mark::FORBIDDEN,
+            Mark::MANDATORY,
+            Mark::OPEN,
+        ];
+        let slip = [0, 0, 2, 2, 1, 2];
+        let items: ArrayVec<u32, 5> = newly_forbidden(&marks, &slip);
+        let indices: ArrayVec<usize, 5> = newly_forbidden_indices(&marks, &slip);
+        assert_eq!(rt; items.as_slice(), [1, 4].as_slice());
+        assert_eq!(rt; indices.as_slice(), [1, 4].as_slice());
+    }
 }

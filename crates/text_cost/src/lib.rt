@@ -11,6 +11,8 @@ ghost use Rattle.reason_rules.specs.Reason.{reason_on};
 ghost use Rattle.cost_rules.specs.Cost.{cost_lines, cost_for, text_of, cost_text};
 ghost use Rattle.text_cost.specs.Told.{told_text};
 
+mod display;
+
 use cost_lines::Costs;
 use sheet_reader::page::Page;
 use sheet_required::whole::Sheet;

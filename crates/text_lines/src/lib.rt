@@ -5,6 +5,8 @@ ghost use Rattle.std.specs.Prelude.{◌≤◌, length, decimal};
 ghost use Rattle.lists.specs.Lists.{Put};
 ghost use Rattle.text_lines.specs.Lines.{spaced, row, line, number_line, difference_line};
 
+mod display;
+
 // The most bytes that a program prints.
 pub const TEXT_BYTES: usize = 8192;
 
@@ -38,7 +40,7 @@ fn put_row(out: &mut [u8], numbers: &[u32]) -> usize
     at
 }
 
-// A word, and numbers each behind a space. It writes itself and cannot fail: a `Display` may answer an error, and promises its text only where it answers none.
+// A word, and numbers each behind a space. `put` writes it and cannot fail; a `Display` may answer an error, and promises its text only where it answers none.
 #[derive(Clone, Copy, Debug, PartialEq, Eq)]
 pub struct Line<'a> {
     pub word: &'a [u8],

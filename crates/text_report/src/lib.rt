@@ -46,7 +46,7 @@ fn stands(sheet: &[u8], slip: &[u8]) -> Report
     let mut page = Page::empty();
     match page.read(sheet) {
         Ok(taken) => Report::Stands {
-            struck: items(&text_answer::newly_forbidden(taken.marks, slip)),
+            struck: items(&text_answer::newly_forbidden_indices(taken.marks, slip)),
         },
         // never: the pass has read it
         Err(why) => Report::Refuses(why),

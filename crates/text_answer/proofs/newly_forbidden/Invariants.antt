@@ -3,5 +3,5 @@ use Rattle.std.proofs.Common.{◌≡◌, ◌≤◌, length}
 use Rattle.text_answer.proofs.ListLaws.{newly_among}
 use Rattle.text_answer.proofs.newly_forbidden.Given as goal
 
-abbrev pub invariant-loop-i : goal.invariant-loop-i
-invariant-loop-i g l = (length l.list.items ≤ l.i) × (l.list.items ≡ newly_among l.marks l.slip l.i)
+abbrev pub invariant-loop-item : goal.invariant-loop-item
+invariant-loop-item g l = (length l.list.items ≤ l.item) × (l.list.items ≡ newly_among l.marks l.slip l.item)
