@@ -12,7 +12,7 @@ pub trait Kind {
 
     ghost reads: { Self → List ℕ → Read Self.Value };
 
-    // Takes the value at the front. Where it is refused, whatever was looked at may be taken.
+    // Takes the value at the front. Where it is refused, nothing is promised of what is left in `bytes`.
     fn take(&self, bytes: &mut Bytes) -> Result<Self::Value, Refusal>
         ensures got { IfOk result (λ x. reads self.now bytes.old.rest.now ≡ got x bytes.new.rest.now) }
         ensures refused { IfErr result (λ why. reads self.now bytes.old.rest.now ≡ refuse (number_of why)) };
